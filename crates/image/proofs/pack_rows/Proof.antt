@@ -1,0 +1,113 @@
+-- `pack_rows` packs the rows one after another: the first y rows stand in the workspace. Assumes nothing.
+use borrow.Author.Needs.{needs}
+use native.Mathlib.Omega.{arith}
+use Prim.Native.Nat.{_+_, _-_, _*_, _≤_}
+use mathlib.Core.Path.{_≡_, sym, _∙_}
+use native.Mathlib.Nat.{add-sub-cancel-left}
+use lib.ListN.{length}
+use denote.Ref.{now}
+use Rattle.image.specs.PlaneLaws.{length-part}
+use Rattle.image.proofs.Copies.{PackedRows, pack-start, pack-same, pack-done, pack-fits, row-long, pack-next}
+use Rattle.image.proofs.pack_rows.Statement.{statement}
+use Rattle.image.proofs.pack_rows.Tie as tie
+
+abbrev Inv-loop : tie.InvT-loop
+Inv-loop src geometry workspace₀ at width height y₀ workspace y = PackedRows src geometry at workspace₀ workspace y
+
+abbrev μ-loop : tie.MeasureT-loop
+μ-loop src geometry workspace₀ at width height y₀ workspace y = height - y
+
+loop-holds : tie.Need-loop-holds Inv-loop μ-loop
+loop-holds c = let a = c .before .before .args in pack-start (now (a .src)) (a .geometry) (a .at) (now (a .workspace))
+
+-- row y lies in the workspace
+fits : (c : tie.In-loop Inv-loop μ-loop) → c .before .before .before .before .args .at + c .before .loop .y * c .before .before .before .before .args .geometry .width + c .before .before .before .before .args .geometry .width ≤ length (c .before .loop .workspace)
+fits c =
+    let s = c .before .before .before .before in
+    let a = s .args in
+    pack-fits (now (a .src)) (a .geometry) (a .at) (now (a .workspace)) (s .pre .1) (c .before .loop .y) (c .before .loop .inv) (s .pre .0) (c .loop-test .taken)
+
+-- and so does what the workspace was
+fits-before : (c : tie.In-loop Inv-loop μ-loop) → c .before .before .before .before .args .at + c .before .loop .y * c .before .before .before .before .args .geometry .width + c .before .before .before .before .args .geometry .width ≤ length (now (c .before .before .before .before .args .workspace))
+fits-before c =
+    let s = c .before .before .before .before in
+    let a = s .args in
+    omega (arith, fits c, pack-same (now (a .src)) (a .geometry) (a .at) (now (a .workspace)) (s .pre .1) (c .before .loop .y) (c .before .loop .inv))
+
+mul-to : tie.Need-mul-to Inv-loop μ-loop
+mul-to c = omega (arith, fits-before c)
+
+add-to : tie.Need-add-to Inv-loop μ-loop
+add-to c = omega (arith, fits-before c)
+
+add-end : tie.Need-add-end Inv-loop μ-loop
+add-end c = omega (arith, fits-before c)
+
+row-requires : tie.Need-row-requires Inv-loop μ-loop
+row-requires c κs = search needs
+
+sub-copy-row : tie.Need-sub-copy-row Inv-loop μ-loop
+sub-copy-row c = search needs
+
+part-copy-row-start : tie.Need-part-copy-row-start Inv-loop μ-loop
+part-copy-row-start c = search needs
+
+part-copy-row-end : tie.Need-part-copy-row-end Inv-loop μ-loop
+part-copy-row-end c = fits (c .before)
+
+copy-row-requires : tie.Need-copy-row-requires Inv-loop μ-loop
+copy-row-requires c κs =
+    let i = c .before .before in
+    let s = i .before .before .before .before in
+    let a = s .args in
+    let to = a .at + i .before .loop .y * a .geometry .width in
+    row-long (now (a .src)) (a .geometry) (a .at) (now (a .workspace)) (s .pre .1) (i .before .loop .y) (i .before .loop .inv) (s .pre .0) (i .loop-test .taken) (now (c .before .row .result)) (c .before .row .ensures)
+    ∙ sym (rw (add-sub-cancel-left to (a .geometry .width)) (length-part to (a .geometry .width) (i .before .loop .workspace) (fits i)))
+
+add-y : tie.Need-add-y Inv-loop μ-loop
+add-y c = let i = c .before .before .before .before .before in omega (arith, i .loop-test .taken, i .before .before .before .before .pre .0 .small-height)
+
+loop-less : tie.Need-loop-less Inv-loop μ-loop
+loop-less c = let i = c .before .before .before .before .before in omega (arith, i .loop-test .taken)
+
+loop-again : tie.Need-loop-again Inv-loop μ-loop
+loop-again c =
+    let p = c .before .before in
+    let r = p .before .before in
+    let i = r .before in
+    let s = i .before .before .before .before in
+    let a = s .args in
+    pack-next (now (a .src)) (a .geometry) (a .at) (now (a .workspace)) (s .pre .1) (i .before .loop .y) (i .before .loop .inv) (s .pre .0) (i .loop-test .taken) (p .copy-row .last .1 .0) (p .copy-row .ensures ∙ r .row .ensures)
+
+same-length : tie.Need-same-length Inv-loop μ-loop
+same-length c =
+    let s = c .before .before .before .before in
+    let a = s .args in
+    pack-same (now (a .src)) (a .geometry) (a .at) (now (a .workspace)) (s .pre .1) (c .before .loop .y) (c .before .loop .inv)
+
+returns : tie.Need-returns Inv-loop μ-loop
+returns c =
+    let s = c .before .before .before .before in
+    let a = s .args in
+    pack-done (now (a .src)) (a .geometry) (a .at) (now (a .workspace)) (s .pre .1) (c .before .loop .y) (c .before .loop .inv) (c .loop-test .left)
+
+pub pack-rows-spec : {M : Type 1} → statement M
+pack-rows-spec =
+    tie.close
+    (tie.spec
+    Inv-loop
+    μ-loop
+    loop-holds
+    mul-to
+    add-to
+    add-end
+    row-requires
+    sub-copy-row
+    part-copy-row-start
+    part-copy-row-end
+    copy-row-requires
+    add-y
+    loop-less
+    loop-again
+    same-length
+    returns)

@@ -1,0 +1,128 @@
+-- `unpack_rows` paints the rows one after another: the first y rows of the destination are painted. Assumes nothing.
+use borrow.Author.Needs.{needs}
+use native.Mathlib.Omega.{arith}
+use Prim.Native.Nat.{_+_, _-_, _*_, _≤_}
+use mathlib.Core.Path.{_≡_, sym, _∙_}
+use native.Mathlib.Nat.{add-sub-cancel-left}
+use lib.ListN.{length}
+use denote.Ref.{now}
+use Rattle.image.specs.PlaneLaws.{length-part}
+use Rattle.image.proofs.Copies.{PaintedRows, unpack-start, unpack-same, unpack-done, from-fits, to-fits, from-long, unpack-next}
+use Rattle.image.proofs.unpack_rows.Statement.{statement}
+use Rattle.image.proofs.unpack_rows.Tie as tie
+
+abbrev Inv-loop : tie.InvT-loop
+Inv-loop workspace at dst₀ width height stride y₀ dst y = PaintedRows workspace at width height stride dst₀ dst y
+
+abbrev μ-loop : tie.MeasureT-loop
+μ-loop workspace at dst₀ width height stride y₀ dst y = height - y
+
+loop-holds : tie.Need-loop-holds Inv-loop μ-loop
+loop-holds c = let a = c .before .before .args in unpack-start (now (a .workspace)) (a .at) (a .geometry) (now (a .dst))
+
+-- row y lies in the workspace
+from : (c : tie.In-loop Inv-loop μ-loop) → c .before .before .before .before .args .at + c .before .loop .y * c .before .before .before .before .args .geometry .width + c .before .before .before .before .args .geometry .width ≤ length (now (c .before .before .before .before .args .workspace))
+from c =
+    let s = c .before .before .before .before in
+    let a = s .args in
+    from-fits (now (a .workspace)) (a .at) (a .geometry) (now (a .dst)) (c .before .loop .y) (c .before .loop .inv) (s .pre .1) (s .pre .0) (c .loop-test .taken)
+
+-- and in the destination
+to : (c : tie.In-loop Inv-loop μ-loop) → (c .before .loop .y * c .before .before .before .before .args .geometry .stride + c .before .before .before .before .args .geometry .width ≤ length (c .before .loop .dst)) × (length (c .before .loop .dst) ≡ length (now (c .before .before .before .before .args .dst)))
+to c =
+    let s = c .before .before .before .before in
+    let a = s .args in (
+      to-fits (now (a .workspace)) (a .at) (a .geometry) (now (a .dst)) (c .before .loop .y) (c .before .loop .inv) (s .pre .1) (s .pre .0) (c .loop-test .taken),
+      unpack-same (now (a .workspace)) (a .at) (a .geometry) (now (a .dst)) (c .before .loop .y) (c .before .loop .inv),
+    )
+
+mul-from : tie.Need-mul-from Inv-loop μ-loop
+mul-from c = omega (arith, from c)
+
+add-from : tie.Need-add-from Inv-loop μ-loop
+add-from c = omega (arith, from c)
+
+add-from-end : tie.Need-add-from-end Inv-loop μ-loop
+add-from-end c = omega (arith, from c)
+
+mul-to : tie.Need-mul-to Inv-loop μ-loop
+mul-to c = omega (arith, to c)
+
+add-end : tie.Need-add-end Inv-loop μ-loop
+add-end c = omega (arith, to c)
+
+sub-copy-row : tie.Need-sub-copy-row Inv-loop μ-loop
+sub-copy-row c = search needs
+
+part-copy-row-start : tie.Need-part-copy-row-start Inv-loop μ-loop
+part-copy-row-start c = search needs
+
+part-copy-row-end : tie.Need-part-copy-row-end Inv-loop μ-loop
+part-copy-row-end c = from c
+
+sub-copy-row-2 : tie.Need-sub-copy-row-2 Inv-loop μ-loop
+sub-copy-row-2 c = search needs
+
+part-copy-row-start-2 : tie.Need-part-copy-row-start-2 Inv-loop μ-loop
+part-copy-row-start-2 c = search needs
+
+part-copy-row-end-2 : tie.Need-part-copy-row-end-2 Inv-loop μ-loop
+part-copy-row-end-2 c = to (c .before) .0
+
+copy-row-requires : tie.Need-copy-row-requires Inv-loop μ-loop
+copy-row-requires c κs =
+    let i = c .before .before in
+    let s = i .before .before .before .before in
+    let a = s .args in
+    let at = i .before .loop .y * a .geometry .stride in
+    from-long (now (a .workspace)) (a .at) (a .geometry) (now (a .dst)) (i .before .loop .y) (i .before .loop .inv) (s .pre .1) (s .pre .0) (i .loop-test .taken)
+    ∙ sym (rw (add-sub-cancel-left at (a .geometry .width)) (length-part at (a .geometry .width) (i .before .loop .dst) (to i .0)))
+
+add-y : tie.Need-add-y Inv-loop μ-loop
+add-y c = let i = c .before .before .before .before .before in omega (arith, i .loop-test .taken, i .before .before .before .before .pre .0 .small-height)
+
+loop-less : tie.Need-loop-less Inv-loop μ-loop
+loop-less c = let i = c .before .before .before .before .before in omega (arith, i .loop-test .taken)
+
+loop-again : tie.Need-loop-again Inv-loop μ-loop
+loop-again c =
+    let p = c .before .before in
+    let i = p .before .before .before in
+    let s = i .before .before .before .before in
+    let a = s .args in
+    unpack-next (now (a .workspace)) (a .at) (a .geometry) (now (a .dst)) (i .before .loop .y) (i .before .loop .inv) (s .pre .1) (s .pre .0) (i .loop-test .taken) (p .copy-row .ensures)
+
+same-length : tie.Need-same-length Inv-loop μ-loop
+same-length c =
+    let a = c .before .before .before .before .args in
+    unpack-same (now (a .workspace)) (a .at) (a .geometry) (now (a .dst)) (c .before .loop .y) (c .before .loop .inv)
+
+returns : tie.Need-returns Inv-loop μ-loop
+returns c =
+    let a = c .before .before .before .before .args in
+    unpack-done (now (a .workspace)) (a .at) (a .geometry) (now (a .dst)) (c .before .loop .y) (c .before .loop .inv) (c .loop-test .left)
+
+pub unpack-rows-spec : {M : Type 1} → statement M
+unpack-rows-spec =
+    tie.close
+    (tie.spec
+    Inv-loop
+    μ-loop
+    loop-holds
+    mul-from
+    add-from
+    add-from-end
+    mul-to
+    add-end
+    sub-copy-row
+    part-copy-row-start
+    part-copy-row-end
+    sub-copy-row-2
+    part-copy-row-start-2
+    part-copy-row-end-2
+    copy-row-requires
+    add-y
+    loop-less
+    loop-again
+    same-length
+    returns)

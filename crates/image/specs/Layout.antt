@@ -1,0 +1,61 @@
+-- The layout of a picture in a slice: which is refused, and with which number. Definitions only.
+use Prim.Native.Nat.{ℕ, _+_, _-_, _*_, _≤_, _<_}
+use mathlib.Core.Bool.{Bool, cond, _&&_, _||_}
+use lib.Dec.{ltb, eqb}
+use Rattle.image.specs.declared.Geometry.{Geometry}
+use Rattle.image.specs.declared.LumaError.{LumaError}
+use Rattle.image.specs.declared.LumaError.the-variants.{EmptyDimensions, StrideTooSmall, BufferTooSmall, SideTooLarge, OutsidePicture}
+use Rattle.image.specs.declared.Layout.{Layout}
+use Rattle.image.specs.declared.Layout.the-variants.{Valid, Invalid}
+
+-- the largest side
+abbrev pub sideLimit : ℕ
+sideLimit = 4096
+
+-- the length that a slice needs: the last row needs no padding
+abbrev pub neededLength : Geometry → ℕ
+neededLength g = g .stride * (g .height - 1) + g .width
+
+-- the layout of g in a slice of len bytes: the first refusal that fits, or the geometry
+unfoldable pub layoutOf : ℕ → Geometry → Layout
+layoutOf len g =
+    cond (eqb (g .width) 0 || eqb (g .height) 0) (Invalid EmptyDimensions)
+    (cond (ltb (g .stride) (g .width)) (Invalid StrideTooSmall)
+    (cond (ltb len (neededLength g)) (Invalid BufferTooSmall)
+    (cond (ltb sideLimit (g .width) || ltb sideLimit (g .height)) (Invalid SideTooLarge)
+    (Valid g))))
+
+-- a place asked for by number: the layout's refusal, else whether the place is inside
+abbrev pub askedFor : Layout → Bool → Layout
+askedFor (Valid g) inside = cond inside (Valid g) (Invalid OutsidePicture)
+askedFor (Invalid e) inside = Invalid e
+
+-- pixel (x, y) asked for
+abbrev pub pixelLayout : ℕ → Geometry → ℕ → ℕ → Layout
+pixelLayout len g x y = askedFor (layoutOf len g) (ltb x (g .width) && ltb y (g .height))
+
+-- row y asked for
+abbrev pub rowLayout : ℕ → Geometry → ℕ → Layout
+rowLayout len g y = askedFor (layoutOf len g) (ltb y (g .height))
+
+-- the refusal of an invalid layout; a valid one has none, and the first kind stands in
+abbrev pub refusalOf : Layout → LumaError
+refusalOf (Invalid e) = e
+refusalOf (Valid g) = EmptyDimensions
+
+-- the number of each refusal
+abbrev pub numberOf : LumaError → ℕ
+numberOf EmptyDimensions = 1
+numberOf StrideTooSmall = 2
+numberOf BufferTooSmall = 3
+numberOf SideTooLarge = 4
+numberOf OutsidePicture = 9
+
+-- what a valid layout says of its numbers
+pub record Kept (len : ℕ) (g : Geometry) : Type 0 where
+  pub wide : 0 < g .width
+  pub high : 0 < g .height
+  pub stride : g .width ≤ g .stride
+  pub fits : neededLength g ≤ len
+  pub small-width : g .width ≤ sideLimit
+  pub small-height : g .height ≤ sideLimit

@@ -1,0 +1,103 @@
+-- What a valid layout gives, and which layouts are valid. Assumes nothing.
+use Prim.Native.Nat.{ℕ, _+_, _-_, _*_, _/_, _≤_, _<_}
+use native.Mathlib.Nat.{mul-comm, mul-le-mul, mul-le-mul-right, pos-of-ne-zero, ne-of-gt}
+use native.Mathlib.Omega.{arith}
+use mathlib.Core.Path.{_≡_, refl, sym, ap, _∙_}
+use mathlib.Core.Bool.{Bool, true, false, cond, _&&_, _||_}
+use mathlib.Core.List.{List}
+use lib.Dec.{ltb, eqb}
+use lib.ListN.{length}
+use borrow.Author.Tests.{ltb-false, eqb-false, ne-eqb, le-ltb, lt-ltb}
+use Rattle.image.specs.declared.Geometry.{Geometry}
+use Rattle.image.specs.declared.LumaError.{LumaError}
+use Rattle.image.specs.declared.LumaError.the-variants.{OutsidePicture}
+use Rattle.image.specs.declared.Layout.{Layout}
+use Rattle.image.specs.declared.Layout.the-variants.{Valid, Invalid}
+use Rattle.image.specs.Layout.{Kept, neededLength, layoutOf, askedFor, pixelLayout, rowLayout, sideLimit}
+use Rattle.image.specs.Row.{rowIn}
+use Rattle.image.specs.Plane.{part}
+
+-- a choice whose first answer is not the one at hand came to its second
+passed : {A : Type 0} (b : Bool) (a x v : A) → (a ≡ v → ⊥) → cond b a x ≡ v → (b ≡ false) × (x ≡ v)
+passed true a x v n e = absurd (n e)
+passed false a x v n e = (refl, e)
+
+-- neither of two tests holds
+neither : (a b : Bool) → (a || b) ≡ false → (a ≡ false) × (b ≡ false)
+neither true b e = let z : _≡_ {A = ℕ} 0 1 = cc in absurd (omega arith)
+neither false b e = (refl, e)
+
+never : (e : LumaError) (g : Geometry) → Invalid e ≡ Valid g → ⊥
+never e g p = let z : _≡_ {A = ℕ} 0 1 = cc in omega arith
+
+-- a valid layout keeps the geometry that it was asked for, and all that `Kept` says
+pub kept-as : (len : ℕ) (g v : Geometry) → layoutOf len g ≡ Valid v → Kept len g × (g ≡ v)
+unfolding layoutOf
+kept-as len g v e =
+    let p1 = passed (eqb (g .width) 0 || eqb (g .height) 0) _ _ _ (never _ v) e in
+    let p2 = passed (ltb (g .stride) (g .width)) _ _ _ (never _ v) (p1 .1) in
+    let p3 = passed (ltb len (neededLength g)) _ _ _ (never _ v) (p2 .1) in
+    let p4 = passed (ltb sideLimit (g .width) || ltb sideLimit (g .height)) _ _ _ (never _ v) (p3 .1) in
+    let sides = neither _ _ (p1 .0) in
+    let limits = neither _ _ (p4 .0) in (
+      record {
+        wide = pos-of-ne-zero (eqb-false _ _ (sides .0));
+        high = pos-of-ne-zero (eqb-false _ _ (sides .1));
+        stride = ltb-false _ _ (p2 .0);
+        fits = ltb-false _ _ (p3 .0);
+        small-width = ltb-false _ _ (limits .0);
+        small-height = ltb-false _ _ (limits .1);
+      },
+      same (p4 .1),
+    )
+  where
+    same : {a b : Geometry} → Valid a ≡ Valid b → a ≡ b
+    same {a} {b} p = cc
+
+-- and whatever `Kept` holds of is valid
+pub kept-valid : {len : ℕ} {g : Geometry} → Kept len g → layoutOf len g ≡ Valid g
+unfolding layoutOf
+kept-valid {len} {g} k =
+    simp (
+      ne-eqb (g .width) 0 (ne-of-gt (k .wide)),
+      ne-eqb (g .height) 0 (ne-of-gt (k .high)),
+      le-ltb (g .stride) (g .width) (k .stride),
+      le-ltb len (neededLength g) (k .fits),
+      le-ltb sideLimit (g .width) (k .small-width),
+      le-ltb sideLimit (g .height) (k .small-height),
+    )
+
+-- a picture has at most 2^24 pixels
+pub area-small : {len : ℕ} {g : Geometry} → Kept len g → g .width * g .height ≤ 16777216
+area-small {len} {g} k = mul-le-mul (k .small-width) (k .small-height)
+
+-- row y ends within the slice
+pub row-within : {len : ℕ} {g : Geometry} → Kept len g → (y : ℕ) → y < g .height → y * g .stride + g .width ≤ len
+row-within {len} {g} k y t =
+    omega (arith, k .fits, mul-le-mul-right {m = y} {n = g .height - 1} (g .stride) (omega arith), mul-comm (g .stride) (g .height - 1))
+
+-- a row of a valid layout, asked for inside
+pub row-asked : {len : ℕ} {g : Geometry} → Kept len g → (y : ℕ) → y < g .height → rowLayout len g y ≡ Valid g
+row-asked {len} {g} k y t = rw (kept-valid k, lt-ltb y (g .height) t)
+
+-- is the row's own bytes
+pub row-kept : (d : List ℕ) {g : Geometry} → Kept (length d) g → (y : ℕ) → y < g .height → rowIn (rowLayout (length d) g y) d y ≡ part (y * g .stride) (g .width) d
+row-kept d {g} k y t = ap (λ (l : Layout). rowIn l d y) (row-asked k y t)
+
+-- a place that was handed out lies in a valid layout
+module _ (len : ℕ) (g v : Geometry) where
+  asked-inside : (l : Layout) (b : Bool) → askedFor l b ≡ Valid v → (l ≡ Valid v) × (b ≡ true)
+  asked-inside (Valid u) true e = (e, refl)
+  asked-inside (Valid u) false e = absurd (never OutsidePicture v e)
+  asked-inside (Invalid r) b e = absurd (never r v e)
+
+  both : (a b : Bool) → (a && b) ≡ true → (a ≡ true) × (b ≡ true)
+  both true b e = (refl, e)
+  both false b e = let z : _≡_ {A = ℕ} 0 1 = cc in absurd (omega arith)
+
+  pub row-inside : (y : ℕ) → rowLayout len g y ≡ Valid v → (Kept len g × (g ≡ v)) × (ltb y (g .height) ≡ true)
+  row-inside y e = let a = asked-inside (layoutOf len g) (ltb y (g .height)) e in (kept-as len g v (a .0), a .1)
+
+  pub pixel-inside : (x y : ℕ) → pixelLayout len g x y ≡ Valid v → (Kept len g × (g ≡ v)) × ((ltb x (g .width) ≡ true) × (ltb y (g .height) ≡ true))
+  pixel-inside x y e =
+      let a = asked-inside (layoutOf len g) (ltb x (g .width) && ltb y (g .height)) e in (kept-as len g v (a .0), both _ _ (a .1))

@@ -1,0 +1,57 @@
+-- Worked layouts, as one table that antt evaluates: the number of each, and 0 for a valid one. Assumes nothing.
+use mathlib.Core.Path.{_≡_, refl}
+use mathlib.Core.Bool.{cond}
+use mathlib.Core.List.{List, [], _∷_}
+use Prim.Native.Nat.{ℕ, suc}
+use lib.Dec.{eqb}
+use Rattle.image.specs.declared.Layout.{Layout}
+use Rattle.image.specs.declared.Layout.the-variants.{Valid, Invalid}
+use Rattle.image.specs.Layout.{layoutOf, pixelLayout, rowLayout, numberOf}
+
+abbrev pub layoutNumber : Layout → ℕ
+layoutNumber (Valid g) = 0
+layoutNumber (Invalid e) = numberOf e
+
+-- the layout of a slice of len bytes
+abbrev pub layout : ℕ → ℕ → ℕ → ℕ → ℕ
+unfolding layoutOf
+layout len width height stride = layoutNumber (layoutOf len (record { width = width; height = height; stride = stride }))
+
+infix 10 _gives_
+-- a worked layout: what is computed, and the number that is right
+pub data Case : Type 0 where
+  _gives_ : ℕ → ℕ → Case
+
+-- the places of the wrong cases, counted from n
+abbrev pub wrong : ℕ → List Case → List ℕ
+wrong n [] = []
+wrong n ((computed gives stated) ∷ cs) = cond (eqb computed stated) (wrong (suc n) cs) (n ∷ wrong (suc n) cs)
+
+unfoldable pub layouts : List Case
+layouts =
+    (layout 100 0 5 10 gives 1) ∷
+    -- a zero side counts before a short stride
+    (layout 0 10 0 5 gives 1) ∷
+    (layout 100 10 5 9 gives 2) ∷
+    -- 12 × 4 + 10 bytes are needed: the last row is short
+    (layout 57 10 5 12 gives 3) ∷
+    (layout 58 10 5 12 gives 0) ∷
+    -- 2 × 2^63 + 1 bytes are needed, past 64 bits
+    (layout 18446744073709551615 1 9223372036854775809 2 gives 3) ∷
+    -- one row needs no stride
+    (layout 1 1 1 18446744073709551615 gives 0) ∷
+    -- a long side in a short slice is short first
+    (layout 4999 5000 1 5000 gives 3) ∷
+    (layout 5000 5000 1 5000 gives 4) ∷
+    (layout 4096 4096 1 4096 gives 0) ∷
+    (layout 4097 1 4097 1 gives 4) ∷
+    -- outside a layout that is valid, and of one that is not
+    (layoutNumber (pixelLayout 6 (record { width = 2; height = 2; stride = 4 }) 1 1) gives 0) ∷
+    (layoutNumber (pixelLayout 6 (record { width = 2; height = 2; stride = 4 }) 2 0) gives 9) ∷
+    (layoutNumber (pixelLayout 6 (record { width = 2; height = 2; stride = 4 }) 0 2) gives 9) ∷
+    (layoutNumber (rowLayout 5 (record { width = 2; height = 2; stride = 4 }) 7) gives 3) ∷
+    []
+
+pub layouts-hold : wrong 1 layouts ≡ []
+unfolding layouts layoutOf
+layouts-hold = refl

@@ -1,0 +1,10 @@
+-- What the contracts of `image` say, and the laws about it that this crate and those above it cite.
+pub mod Layout
+pub mod Plane
+pub mod Pixel
+pub mod Row
+pub mod Copy
+pub mod Layouts
+pub mod LayoutLaws
+pub mod PlaneLaws
+pub mod PaintLaws

@@ -1,0 +1,34 @@
+-- Reading and writing one pixel by number. Definitions only.
+use Prim.Native.Nat.{ℕ, _+_, _*_}
+use mathlib.Core.Path.{_≡_}
+use mathlib.Core.List.{List}
+use lib.ListN.{length, set}
+use Rattle.image.specs.declared.Geometry.{Geometry}
+use Rattle.image.specs.declared.Layout.{Layout}
+use Rattle.image.specs.declared.Layout.the-variants.{Valid, Invalid}
+use Rattle.image.specs.declared.Pixel.{Pixel}
+use Rattle.image.specs.declared.Pixel.the-variants.{Value, Refused}
+use Rattle.image.specs.declared.Written.{Written}
+use Rattle.image.specs.declared.Written.the-variants.{Done, Refused as Written·Refused}
+use Rattle.image.specs.Layout.{pixelLayout}
+use Rattle.image.specs.Plane.{pixel}
+
+-- the pixel, or the refusal
+abbrev pub valueIn : Layout → List ℕ → ℕ → ℕ → Pixel
+valueIn (Valid g) d x y = Value (pixel d (g .stride) x y)
+valueIn (Invalid e) d x y = Refused e
+
+-- the answer of a write
+abbrev pub writtenIn : Layout → Written
+writtenIn (Valid g) = Done
+writtenIn (Invalid e) = Written·Refused e
+
+-- the bytes after a write: the pixel's byte replaced, or nothing
+abbrev pub bytesIn : Layout → List ℕ → ℕ → ℕ → ℕ → List ℕ
+bytesIn (Valid g) d x y v = set d (y * g .stride + x) v
+bytesIn (Invalid e) d x y v = d
+
+-- the contract of a write of v at (x, y): the bytes before, the answer and the bytes after
+pub record Sets (before : List ℕ) (g : Geometry) (x y v : ℕ) (answer : Written) (after : List ℕ) : Type 0 where
+  pub answers : answer ≡ writtenIn (pixelLayout (length before) g x y)
+  pub leaves : after ≡ bytesIn (pixelLayout (length before) g x y) before x y v

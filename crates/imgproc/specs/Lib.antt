@@ -1,0 +1,6 @@
+-- What the contracts of `imgproc` say: a file for each part of document 01, and the laws about them.
+pub mod Refusals
+pub mod Fold
+pub mod Reach
+pub mod Extremes
+pub mod Walks

@@ -1,0 +1,47 @@
+-- What is turned back, and with which number: the first condition that fits counts. Definitions only.
+use Prim.Native.Nat.{ℕ, _*_, _%_}
+use mathlib.Core.Bool.{Bool, cond, not, _&&_, _||_}
+use lib.Dec.{ltb, eqb}
+use Rattle.image.specs.declared.Geometry.{Geometry}
+use Rattle.image.specs.declared.Layout.{Layout}
+use Rattle.image.specs.declared.Layout.the-variants.{Valid, Invalid}
+use Rattle.image.specs.Layout.{layoutOf, numberOf}
+use Rattle.imgproc.specs.declared.ImgProcError.{ImgProcError}
+use Rattle.imgproc.specs.declared.ImgProcError.the-variants.{Image, DimensionMismatch, InvalidKernel, InvalidConfiguration, WorkspaceTooSmall, GridBufferTooSmall}
+use Rattle.imgproc.specs.declared.Check.{Check}
+use Rattle.imgproc.specs.declared.Check.the-variants.{Accepted, Refused}
+
+-- the number of each refusal
+abbrev pub errorNumber : ImgProcError → ℕ
+errorNumber (Image e) = numberOf e
+errorNumber DimensionMismatch = 5
+errorNumber InvalidKernel = 6
+errorNumber InvalidConfiguration = 7
+errorNumber WorkspaceTooSmall = 8
+errorNumber GridBufferTooSmall = 10
+
+infixr 5 _then_
+-- one check after another: the first refusal counts
+abbrev pub _then_ : Check → Check → Check
+_then_ Accepted c = c
+_then_ (Refused e) c = Refused e
+
+-- refused where a condition fits
+abbrev pub refusedIf : Bool → ImgProcError → Check
+refusedIf fits e = cond fits (Refused e) Accepted
+
+-- a layout's refusal is passed on
+abbrev pub layoutCheck : Layout → Check
+layoutCheck (Valid g) = Accepted
+layoutCheck (Invalid e) = Refused (Image e)
+
+-- source layout; destination layout; differing sizes
+abbrev pub pairCheck : ℕ → Geometry → ℕ → Geometry → Check
+pairCheck srcLen src dstLen dst =
+    layoutCheck (layoutOf srcLen src) then
+    layoutCheck (layoutOf dstLen dst) then
+    refusedIf (not (eqb (src .width) (dst .width) && eqb (src .height) (dst .height))) DimensionMismatch
+
+-- a kernel is odd and at least 3
+abbrev pub badKernel : ℕ → Bool
+badKernel k = ltb k 3 || eqb (k % 2) 0

@@ -1,0 +1,100 @@
+-- The three walks of a line of n samples sum to 3n - 2⌈n/k⌉. Assumes nothing.
+use mathlib.Core.Path.{_≡_, refl, sym, ap, _∙_}
+use mathlib.Core.Bool.{Bool, true, false, not, _&&_}
+use mathlib.Core.Logic.{_⊎_, inl, inr, ⊎-elim}
+use Prim.Native.Nat.{ℕ, zero, suc, _+_, _-_, _*_, _/_, _%_, _≤_, _<_}
+use native.Mathlib.Nat.{zero-mod, eq-or-lt-of-le, div-add-mod, mod-lt, div-eq-of-lt-le}
+use native.Mathlib.Numerals.{add-one}
+use native.Mathlib.Omega.{arith}
+use lib.Dec.{eqb}
+use borrow.Author.Tests.{eq-eqb, ne-eqb}
+use Rattle.imgproc.specs.Fold.{bit}
+use Rattle.imgproc.specs.Reach.{walk, forwardAt, backwardAt, joinAt, ceiling, lineWalks, sweepWalks, R}
+
+-- two numbers, by order
+cases : (a b : ℕ) {C : Type 0} → (a ≡ b → C) → (a < b → C) → (b < a → C) → C
+cases a b e l g = ⊎-elim (λ p. ⊎-elim e l (eq-or-lt-of-le p)) (λ q. ⊎-elim (λ s. e (sym s)) g (eq-or-lt-of-le q)) (le-or a b)
+  where
+    le-or : (a b : ℕ) → (a ≤ b) ⊎ (b ≤ a)
+    le-or zero b = inl (omega arith)
+    le-or (suc a) zero = inr (omega arith)
+    le-or (suc a) (suc b) = ⊎-elim (λ p. inl (omega arith)) (λ q. inr (omega arith)) (le-or a b)
+
+-- i lies in the block that starts at k * q
+quotient : (k q i : ℕ) → k * q ≤ i → i < k * q + k → i / k ≡ q
+quotient k q i l h = div-eq-of-lt-le k (omega arith) (omega arith)
+
+-- an index's place in its block
+place : (k i : ℕ) → 0 < k → (k * (i / k) + i % k ≡ i) × (i % k < k)
+place k i p = (div-add-mod i k, mod-lt i p)
+
+-- walks of tests that agree below n
+same-walk : (p q : ℕ → Bool) (n : ℕ) → ((i : ℕ) → i < n → p i ≡ q i) → walk p n ≡ walk q n
+unfolding walk
+same-walk p q zero h = refl
+same-walk p q (suc n) h =
+    let e : walk p n ≡ walk q n = same-walk p q n (λ i l. h i (omega arith)) in
+    let t : bit (p n) ≡ bit (q n) = ap (λ (b : Bool). bit b) (h n (omega arith)) in
+    omega arith
+
+-- a walk that starts one further on
+shift-walk : (p : ℕ → Bool) (n : ℕ) → walk p (suc n) ≡ bit (p 0) + walk (λ (i : ℕ). p (suc i)) n
+unfolding walk
+shift-walk p zero = omega arith
+shift-walk p (suc n) = let h = shift-walk p n in omega arith
+
+join-walk : (n : ℕ) → walk joinAt n ≡ n
+unfolding walk
+join-walk zero = refl
+join-walk (suc n) = let h = join-walk n in omega arith
+
+module _ (k : ℕ) (pos : 0 < k) where
+  -- every index but the first of each block
+  forward-walk : (n : ℕ) → walk (forwardAt k) n + ceiling n k ≡ n
+  unfolding walk
+  forward-walk zero = omega (arith, quotient k 0 (0 + k - 1) (omega arith) (omega arith))
+  forward-walk (suc n) =
+      let h = forward-walk n in
+      let at = place k n pos in
+      let next : ceiling (suc n) k ≡ n / k + 1 = quotient k (n / k + 1) (suc n + k - 1) (omega arith) (omega arith) in
+      let first : n % k ≡ 0 → walk (forwardAt k) n + bit (forwardAt k n) + ceiling (suc n) k ≡ suc n = λ z.
+      let now : ceiling n k ≡ n / k = quotient k (n / k) (n + k - 1) (omega arith) (omega arith) in
+      let t : bit (forwardAt k n) ≡ 0 = simp (eq-eqb _ _ z) in
+      omega arith in
+      let other : 0 < n % k → walk (forwardAt k) n + bit (forwardAt k n) + ceiling (suc n) k ≡ suc n = λ nz.
+      let now : ceiling n k ≡ n / k + 1 = quotient k (n / k + 1) (n + k - 1) (omega arith) (omega arith) in
+      let t : bit (forwardAt k n) ≡ 1 = simp (ne-eqb (n % k) 0 (λ e. omega arith)) in
+      omega arith in
+      cases (n % k) 0 first (λ l. absurd (omega arith)) other
+
+  -- i is the last of its block where the next index is the first of one
+  turns : (i : ℕ) → not (eqb (i % k) (k - 1)) ≡ forwardAt k (suc i)
+  turns i =
+      let at = place k i pos in
+      let nx = place k (suc i) pos in
+      let last : i % k ≡ k - 1 → not (eqb (i % k) (k - 1)) ≡ forwardAt k (suc i) = λ e.
+      let q : k * (suc i / k) ≡ k * (i / k) + k = ap (λ (z : ℕ). k * z) (quotient k (i / k + 1) (suc i) (omega arith) (omega arith)) ∙ omega arith in
+      simp (eq-eqb _ _ e, eq-eqb (suc i % k) 0 (omega arith)) in
+      let within : i % k < k - 1 → not (eqb (i % k) (k - 1)) ≡ forwardAt k (suc i) = λ l.
+      let q : k * (suc i / k) ≡ k * (i / k) = ap (λ (z : ℕ). k * z) (quotient k (i / k) (suc i) (omega arith) (omega arith)) in
+      simp (ne-eqb (i % k) (k - 1) (λ e. omega arith), ne-eqb (suc i % k) 0 (λ e. omega arith)) in
+      cases (i % k) (k - 1) last within (λ g. absurd (omega arith))
+
+  -- so a backward pass makes as many as a forward one
+  backward-walk : (n : ℕ) → walk (backwardAt k n) n ≡ walk (forwardAt k) n
+  unfolding walk
+  backward-walk zero = refl
+  backward-walk (suc m) =
+      let inner : walk (backwardAt k (suc m)) m ≡ walk (λ (i : ℕ). forwardAt k (suc i)) m =
+      same-walk _ _ m (λ i l. simp (turns i, ne-eqb i (suc m - 1) (λ e. omega arith))) in
+      let last : bit (backwardAt k (suc m) m) ≡ 0 = simp (eq-eqb m (suc m - 1) (omega arith)) in
+      let none : bit (forwardAt k 0) ≡ 0 = simp (zero-mod k) in
+      let s = shift-walk (forwardAt k) m in
+      omega arith
+
+  pub line-walks : (n : ℕ) → lineWalks k n ≡ 3 * n - 2 * ceiling n k
+  line-walks n = omega (arith, join-walk n, forward-walk n, backward-walk n)
+
+  pub sweep-walks : (w h : ℕ) → sweepWalks k w h ≡ R k w h
+  unfolding R
+  sweep-walks w h = rw (line-walks w, line-walks h)

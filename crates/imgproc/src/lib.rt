@@ -1,0 +1,34 @@
+// Operators on grey pictures: what each refuses, by kind and by number.
+use image::Layout;
+use image::LumaError;
+ghost use mathlib.Core.Path.{_≡_};
+ghost use Rattle.imgproc.specs.Refusals.{errorNumber, layoutCheck};
+
+pub enum ImgProcError {
+    Image(LumaError),
+    DimensionMismatch,
+    InvalidKernel,
+    InvalidConfiguration,
+    WorkspaceTooSmall,
+    GridBufferTooSmall,
+}
+
+// Whether a call goes on.
+pub enum Check {
+    Accepted,
+    Refused(ImgProcError),
+}
+
+// The number of a refusal.
+pub fn number(error: ImgProcError) -> u32
+    ensures { λ r. ⌜ r ≡ errorNumber error ⌝ }
+{
+    match error {
+        ImgProcError::Image(luma) => image::number(luma),
+        ImgProcError::DimensionMismatch => 5,
+        ImgProcError::InvalidKernel => 6,
+        ImgProcError::InvalidConfiguration => 7,
+        ImgProcError::WorkspaceTooSmall => 8,
+        ImgProcError::GridBufferTooSmall => 10,
+    }
+}
