@@ -51,6 +51,11 @@ numberOf BufferTooSmall = 3
 numberOf SideTooLarge = 4
 numberOf OutsidePicture = 9
 
+-- the number of a layout's refusal, and 0 of a valid one
+abbrev pub layoutNumber : Layout → ℕ
+layoutNumber (Valid g) = 0
+layoutNumber (Invalid e) = numberOf e
+
 -- what a valid layout says of its numbers
 pub record Kept (len : ℕ) (g : Geometry) : Type 0 where
   pub wide : 0 < g .width

@@ -4,13 +4,7 @@ use mathlib.Core.Bool.{cond}
 use mathlib.Core.List.{List, [], _∷_}
 use Prim.Native.Nat.{ℕ, suc}
 use lib.Dec.{eqb}
-use Rattle.image.specs.declared.Layout.{Layout}
-use Rattle.image.specs.declared.Layout.the-variants.{Valid, Invalid}
-use Rattle.image.specs.Layout.{layoutOf, pixelLayout, rowLayout, numberOf}
-
-abbrev pub layoutNumber : Layout → ℕ
-layoutNumber (Valid g) = 0
-layoutNumber (Invalid e) = numberOf e
+use Rattle.image.specs.Layout.{layoutOf, pixelLayout, rowLayout, layoutNumber}
 
 -- the layout of a slice of len bytes
 abbrev pub layout : ℕ → ℕ → ℕ → ℕ → ℕ

@@ -3,7 +3,7 @@
 ghost use mathlib.Core.Path.{_≡_};
 ghost use Prim.Native.Nat.{_+_, _*_, _≤_};
 ghost use lib.ListN.{length};
-ghost use Rattle.image.specs.Layout.{layoutOf, pixelLayout, rowLayout, refusalOf, numberOf, Kept};
+ghost use Rattle.image.specs.Layout.{layoutOf, pixelLayout, rowLayout, refusalOf, numberOf, layoutNumber, Kept};
 ghost use Rattle.image.specs.Pixel.{valueIn, Sets};
 ghost use Rattle.image.specs.Row.{rowIn};
 ghost use Rattle.image.specs.Copy.{Packs, Unpacks, copiedNumber};
@@ -98,6 +98,16 @@ pub fn number(error: LumaError) -> u32
         LumaError::BufferTooSmall => 3,
         LumaError::SideTooLarge => 4,
         LumaError::OutsidePicture => 9,
+    }
+}
+
+// The number of a layout's refusal, and 0 of a valid one.
+pub fn layout_number(layout: Layout) -> u32
+    ensures { λ r. ⌜ r ≡ layoutNumber layout ⌝ }
+{
+    match layout {
+        Layout::Invalid(error) => number(error),
+        Layout::Valid(_) => 0,
     }
 }
 

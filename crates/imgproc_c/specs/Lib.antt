@@ -1,0 +1,2 @@
+-- What the exports promise, in the words of the libraries below.
+pub mod Picture
