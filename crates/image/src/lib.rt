@@ -186,9 +186,9 @@ pub fn row_mut(data: &mut [u8], geometry: Geometry, y: usize) -> &mut [u8]
     let Layout::Valid(g) = check_row(data.len(), geometry, y) else {
         return &mut data[0..0];
     };
-    let from = y * g.stride;
-    let to = from + g.width;
-    &mut data[from..to]
+    let start = y * g.stride;
+    let end = start + g.width;
+    &mut data[start..end]
 }
 
 // The bytes of one row, from as many others.
@@ -213,8 +213,8 @@ fn pack_rows(src: &[u8], geometry: Geometry, workspace: &mut [u8], at: usize)
     let mut y = 0;
     while y < height {
         let to = at + y * width;
-        let end = to + width;
-        copy_row(row(src, geometry, y), &mut workspace[to..end]);
+        let to_end = to + width;
+        copy_row(row(src, geometry, y), &mut workspace[to..to_end]);
         y += 1;
     }
 }
@@ -231,9 +231,9 @@ fn unpack_rows(workspace: &[u8], at: usize, dst: &mut [u8], geometry: Geometry)
     while y < height {
         let from = at + y * width;
         let from_end = from + width;
-        let to = y * stride;
-        let end = to + width;
-        copy_row(&workspace[from..from_end], &mut dst[to..end]);
+        let start = y * stride;
+        let end = start + width;
+        copy_row(&workspace[from..from_end], &mut dst[start..end]);
         y += 1;
     }
 }

@@ -40,8 +40,8 @@ mul-to c = omega (arith, fits-before c)
 add-to : tie.Need-add-to Inv-loop μ-loop
 add-to c = omega (arith, fits-before c)
 
-add-end : tie.Need-add-end Inv-loop μ-loop
-add-end c = omega (arith, fits-before c)
+add-to-end : tie.Need-add-to-end Inv-loop μ-loop
+add-to-end c = omega (arith, fits-before c)
 
 row-requires : tie.Need-row-requires Inv-loop μ-loop
 row-requires c κs = search needs
@@ -100,7 +100,7 @@ pack-rows-spec =
     loop-holds
     mul-to
     add-to
-    add-end
+    add-to-end
     row-requires
     sub-copy-row
     part-copy-row-start

@@ -43,11 +43,11 @@ place c =
     let a = l .before .before .args in
     row-place (length (now (a .«data»))) (a .geometry) (a .y) (l .check-row .ensures) (c .before .g .given .1)
 
-mul-from : tie.Need-mul-from
-mul-from c = omega (arith, place (c .before))
+mul-start : tie.Need-mul-start
+mul-start c = omega (arith, place (c .before))
 
-add-to : tie.Need-add-to
-add-to c = omega (arith, place (c .before .before))
+add-end : tie.Need-add-end
+add-end c = omega (arith, place (c .before .before))
 
 sub-result-2 : tie.Need-sub-result-2
 sub-result-2 c = search needs
@@ -77,8 +77,8 @@ row-mut-spec =
     part-data-start
     part-data-end
     returns
-    mul-from
-    add-to
+    mul-start
+    add-end
     sub-result-2
     part-data-start-2
     part-data-end-2

@@ -45,8 +45,8 @@ add-from c = omega (arith, from c)
 add-from-end : tie.Need-add-from-end Inv-loop μ-loop
 add-from-end c = omega (arith, from c)
 
-mul-to : tie.Need-mul-to Inv-loop μ-loop
-mul-to c = omega (arith, to c)
+mul-start : tie.Need-mul-start Inv-loop μ-loop
+mul-start c = omega (arith, to c)
 
 add-end : tie.Need-add-end Inv-loop μ-loop
 add-end c = omega (arith, to c)
@@ -112,7 +112,7 @@ unpack-rows-spec =
     mul-from
     add-from
     add-from-end
-    mul-to
+    mul-start
     add-end
     sub-copy-row
     part-copy-row-start
