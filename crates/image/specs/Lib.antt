@@ -8,3 +8,4 @@ pub mod Layouts
 pub mod LayoutLaws
 pub mod PlaneLaws
 pub mod PaintLaws
+pub mod FillLaws

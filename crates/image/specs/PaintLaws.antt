@@ -15,7 +15,7 @@ use lib.Seq.{ext-getD, getD-append-add, take-at, drop-at, drop-drop, length-take
 use borrow.Author.Tests.{lt-ltb, le-ltb}
 use borrow.Rule.Slice.PartMut.{putMid}
 use Rattle.image.specs.Plane.{pixel, packed, plane, mapFrom, paintedAt, painted, part, overwritten}
-use Rattle.image.specs.PlaneLaws.{length-packed, pixel-packed, is-plane, length-overwritten, overwritten-before, overwritten-within, overwritten-after}
+use Rattle.image.specs.PlaneLaws.{length-plane, pixel-plane, is-plane, length-overwritten, overwritten-before, overwritten-within, overwritten-after}
 
 -- a part that was lent to a call and came back as r
 pub put-part : (a e : ℕ) (d r : List ℕ) → a ≤ e → length r ≡ e - a → putMid a (e - a) d r ≡ overwritten a r d
@@ -115,34 +115,33 @@ module _ (p : List ℕ) (w st y : ℕ) (d r : List ℕ) (ws : w ≤ st) (sp : 0 
 
 -- ---- packed rows
 
-pub packed-none : (s : List ℕ) (w st : ℕ) → packed s w 0 st ≡ []
-packed-none s w st = ext-getD 0 _ _ (length-packed s w 0 st ∙ mul-zero w) (λ i l. absurd (omega (arith, length-packed s w 0 st, mul-zero w)))
+plane-none : (w : ℕ) (f : ℕ → ℕ → ℕ) → plane w 0 f ≡ []
+plane-none w f = ext-getD 0 _ _ (length-plane w 0 f ∙ mul-zero w) (λ i l. absurd (omega (arith, length-plane w 0 f, mul-zero w)))
 
 -- one row more
-pub packed-row : (s : List ℕ) (w st y : ℕ) (r : List ℕ) → 0 < w → length r ≡ w → ((x : ℕ) → x < w → getD r x 0 ≡ pixel s st x y) → packed s w y st ++ r ≡ packed s w (y + 1) st
-unfolding packed
-packed-row s w st y r W long is =
-    is-plane w (y + 1) (pixel s st) (packed s w y st ++ r) W
-    (length-append (packed s w y st) r ∙ omega (arith, length-packed s w y st, mul-comm w y, mul-comm w (y + 1), suc-mul y w, add-one-mul))
+plane-row : (w : ℕ) (f : ℕ → ℕ → ℕ) (y : ℕ) (r : List ℕ) → 0 < w → length r ≡ w → ((x : ℕ) → x < w → getD r x 0 ≡ f x y) → plane w y f ++ r ≡ plane w (y + 1) f
+plane-row w f y r W long is =
+    is-plane w (y + 1) f (plane w y f ++ r) W
+    (length-append (plane w y f) r ∙ omega (arith, length-plane w y f, mul-comm w y, mul-comm w (y + 1), suc-mul y w, add-one-mul))
     each
   where
     add-one-mul : (y + 1) * w ≡ suc y * w
     add-one-mul = ap (λ (n : ℕ). n * w) (add-one y)
 
-    size : length (packed s w y st) ≡ y * w
-    size = length-packed s w y st ∙ mul-comm w y
+    size : length (plane w y f) ≡ y * w
+    size = length-plane w y f ∙ mul-comm w y
 
-    each : (x q : ℕ) → x < w → q < y + 1 → pixel (packed s w y st ++ r) w x q ≡ pixel s st x q
+    each : (x q : ℕ) → x < w → q < y + 1 → pixel (plane w y f ++ r) w x q ≡ f x q
     each x q X Q =
         ⊎-elim
         (λ e.
-        ap (λ (n : ℕ). getD (packed s w y st ++ r) (n + x) 0) (ap (λ (n : ℕ). n * w) e ∙ sym size)
-        ∙ getD-append-add (packed s w y st) r x 0
+        ap (λ (n : ℕ). getD (plane w y f ++ r) (n + x) 0) (ap (λ (n : ℕ). n * w) e ∙ sym size)
+        ∙ getD-append-add (plane w y f) r x 0
         ∙ is x X
-        ∙ ap (λ (n : ℕ). pixel s st x n) (sym e))
+        ∙ ap (λ (n : ℕ). f x n) (sym e))
         (λ l.
-        List·getD-append (packed s w y st) r 0 (q * w + x) (omega (arith, size, suc-mul q w, mul-le-mul-right w l))
-        ∙ pixel-packed s w y st x q X l)
+        List·getD-append (plane w y f) r 0 (q * w + x) (omega (arith, size, suc-mul q w, mul-le-mul-right w l))
+        ∙ pixel-plane w y f x q X l)
         (eq-or-lt-of-le {n = q} {m = y} (omega arith))
 
 -- two neighbouring parts written one after the other
@@ -160,14 +159,23 @@ overwritten-more at p r d fits =
     ∙ ap (λ (k : ℕ). drop k d) total in
     rw (front, back) (append-assoc (take at d) p _ ∙ ap (λ (k : List ℕ). take at d ++ k) (sym (append-assoc p r _)))
 
--- row y packed after the rows before it
-pub packed-more : (s : List ℕ) (w st y at : ℕ) (d r : List ℕ) → 0 < w → at + (y * w + w) ≤ length d → length r ≡ w → ((x : ℕ) → x < w → getD r x 0 ≡ pixel s st x y) → overwritten (at + y * w) r (overwritten at (packed s w y st) d) ≡ overwritten at (packed s w (y + 1) st) d
-packed-more s w st y at d r W fits long is =
-    let size : length (packed s w y st) ≡ y * w = length-packed s w y st ∙ mul-comm w y in
-    ap (λ (n : ℕ). overwritten (at + n) r (overwritten at (packed s w y st) d)) (sym size)
-    ∙ overwritten-more at (packed s w y st) r d (omega arith)
-    ∙ ap (λ (p : List ℕ). overwritten at p d) (packed-row s w st y r W long is)
+-- nothing written yet
+pub plane-start : (w : ℕ) (f : ℕ → ℕ → ℕ) (at : ℕ) (d : List ℕ) → overwritten at (plane w 0 f) d ≡ d
+plane-start w f at d = rw (plane-none, add-zero) (take-append-drop at d)
 
--- nothing packed yet
+-- row y of a plane written after the rows before it
+pub plane-more : (w : ℕ) (f : ℕ → ℕ → ℕ) (y at : ℕ) (d r : List ℕ) → 0 < w → at + (y * w + w) ≤ length d → length r ≡ w → ((x : ℕ) → x < w → getD r x 0 ≡ f x y) → overwritten (at + y * w) r (overwritten at (plane w y f) d) ≡ overwritten at (plane w (y + 1) f) d
+plane-more w f y at d r W fits long is =
+    let size : length (plane w y f) ≡ y * w = length-plane w y f ∙ mul-comm w y in
+    ap (λ (n : ℕ). overwritten (at + n) r (overwritten at (plane w y f) d)) (sym size)
+    ∙ overwritten-more at (plane w y f) r d (omega arith)
+    ∙ ap (λ (p : List ℕ). overwritten at p d) (plane-row w f y r W long is)
+
+-- the same of a picture's own pixels
 pub packed-start : (s : List ℕ) (w st at : ℕ) (d : List ℕ) → overwritten at (packed s w 0 st) d ≡ d
-packed-start s w st at d = rw (packed-none, add-zero) (take-append-drop at d)
+unfolding packed
+packed-start s w st at d = plane-start w (pixel s st) at d
+
+pub packed-more : (s : List ℕ) (w st y at : ℕ) (d r : List ℕ) → 0 < w → at + (y * w + w) ≤ length d → length r ≡ w → ((x : ℕ) → x < w → getD r x 0 ≡ pixel s st x y) → overwritten (at + y * w) r (overwritten at (packed s w y st) d) ≡ overwritten at (packed s w (y + 1) st) d
+unfolding packed
+packed-more s w st y at d r W fits long is = plane-more w (pixel s st) y at d r W fits long is

@@ -4,3 +4,4 @@ pub mod Fold
 pub mod Reach
 pub mod Extremes
 pub mod Walks
+pub mod Division

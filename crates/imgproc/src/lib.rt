@@ -1,8 +1,10 @@
 // Operators on grey pictures: what each refuses, by kind and by number.
+pub mod illumination;
+
 use image::Layout;
 use image::LumaError;
 ghost use mathlib.Core.Path.{_≡_};
-ghost use Rattle.imgproc.specs.Refusals.{errorNumber, layoutCheck};
+ghost use Rattle.imgproc.specs.Refusals.{errorNumber};
 
 pub enum ImgProcError {
     Image(LumaError),
