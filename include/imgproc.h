@@ -1,0 +1,72 @@
+/*
+ * imgproc: proved operations on grey pictures.
+ *
+ * A picture is a range of bytes with a width, a height and a stride: pixel (x, y) is the byte at y * stride + x. The
+ * range needs stride * (height - 1) + width bytes; the last row needs no padding. Sides run from 1 to 4096.
+ *
+ * Every call answers a number: 0 when it did its work, else why it was turned back. A refused call changes nothing: no
+ * lent byte, no workspace, no number behind a pointer. The first reason that fits, in the order given for each call,
+ * is the one that is answered.
+ *
+ *    1  a side is zero
+ *    2  the stride is below the width
+ *    3  the range is shorter than the picture needs
+ *    4  a side is above 4096
+ *    8  the range to copy to, or the workspace, is too short
+ *    9  the pixel or row lies outside the picture
+ *
+ * "Layout" below means 1, 2, 3 and 4, in this order. Lengths are exact: no product of stride and height wraps.
+ *
+ * What the caller has to see to, and no proof can:
+ *  - Each pointer is valid for its length: that many bytes (or numbers) may be read there, and written where the
+ *    pointer is not to const. A pointer to a single number is valid for that number, and aligned for its type.
+ *  - No two lent ranges overlap, unless both are only read. This goes for numbers behind pointers too.
+ *  - No pointer is null, not even where the length is 0.
+ *  - Nobody else writes to what is lent, or reads what is written, while a call runs.
+ * Nothing is kept after a call, and no call allocates, so calls on different ranges may run at the same time.
+ */
+#ifndef IMGPROC_H
+#define IMGPROC_H
+
+#include <stddef.h>
+#include <stdint.h>
+
+#ifdef __cplusplus
+extern "C" {
+#endif
+
+/* Whether a range of len bytes holds the picture: 0, or layout. */
+uint32_t imgproc_validate_layout(size_t len, size_t width, size_t height, size_t stride);
+
+/* Puts pixel (x, y) into *value. Refused: layout, then 9. */
+uint32_t imgproc_get(const uint8_t *data, size_t len, size_t width, size_t height, size_t stride,
+                     size_t x, size_t y, uint8_t *value);
+
+/* Writes value to pixel (x, y), and to no other byte. Refused: layout, then 9. */
+uint32_t imgproc_set(uint8_t *data, size_t len, size_t width, size_t height, size_t stride,
+                     size_t x, size_t y, uint8_t value);
+
+/* Whether row y may be read in place: where this answers 0, the row is the width bytes from data + y * stride on.
+   Refused: layout, then 9. */
+uint32_t imgproc_check_row(size_t len, size_t width, size_t height, size_t stride, size_t y);
+
+/* Copies row y to the first width bytes of out, and leaves the rest of out. Refused: layout, then 9, then 8 where
+   out_len is below width. */
+uint32_t imgproc_row(const uint8_t *data, size_t len, size_t width, size_t height, size_t stride,
+                     size_t y, uint8_t *out, size_t out_len);
+
+/* Copies the rows to a packed plane: width * height bytes without padding, from workspace + at on. No other byte of
+   the workspace changes. Refused: layout, then 8 where the plane does not lie in the workspace. */
+uint32_t imgproc_pack(const uint8_t *src, size_t src_len, size_t width, size_t height, size_t stride,
+                      uint8_t *workspace, size_t workspace_len, size_t at);
+
+/* Copies a packed plane from workspace + at on to the rows of dst. No byte outside the rows changes. Refused: layout
+   of dst, then 8 where the plane does not lie in the workspace. */
+uint32_t imgproc_unpack(const uint8_t *workspace, size_t workspace_len, size_t at,
+                        uint8_t *dst, size_t dst_len, size_t width, size_t height, size_t stride);
+
+#ifdef __cplusplus
+}
+#endif
+
+#endif

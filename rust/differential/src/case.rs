@@ -1,0 +1,136 @@
+//! One case: what our side left behind, held to what is expected of it.
+
+use crate::fault::Fault;
+use crate::guard::Guarded;
+use crate::rng::Word;
+use std::borrow::Cow;
+
+/// A buffer as our side left it.
+pub enum Buffer {
+    Bytes(Guarded<u8>),
+    Words(Guarded<u64>),
+}
+
+/// What our side answered and left: the number, the numbers written through pointers, every lent buffer.
+pub struct Outcome {
+    pub number: u32,
+    pub outs: Vec<u64>,
+    pub lent: Vec<Buffer>,
+}
+
+/// What a buffer has to hold afterwards.
+pub enum Left<'a> {
+    /// The workspace of an accepted call: nothing is promised.
+    Open,
+    Bytes(Cow<'a, [u8]>),
+    /// The noise of this seed, as it was lent.
+    Noise(u64),
+}
+
+pub struct Expected<'a> {
+    pub number: u32,
+    pub outs: Vec<u64>,
+    pub lent: Vec<Left<'a>>,
+}
+
+/// Where a fault can be planted in the buffers of an accepted call: (buffer, byte).
+#[derive(Default)]
+pub struct Places {
+    /// A byte that the call writes.
+    pub written: Option<(usize, usize)>,
+    /// A byte of a written buffer that the call has to leave alone.
+    pub beside: Option<(usize, usize)>,
+    /// A byte of a buffer that is only read.
+    pub source: Option<(usize, usize)>,
+}
+
+pub trait Case: Clone {
+    /// The subject that the case counts for.
+    fn name(&self) -> &'static str;
+    fn ours(&self) -> Outcome;
+    /// An error where the expectations themselves disagree.
+    fn expected(&self) -> Result<Expected<'_>, String>;
+    /// Whether the safe call says the same; only asked when the rest is right.
+    fn safe(&self, expected: &Expected<'_>) -> Result<(), String>;
+    fn places(&self) -> Places;
+    /// Cases that are simpler, to look for the smallest one that still differs.
+    fn smaller(&self) -> Vec<Self>;
+    fn tell(&self) -> String;
+}
+
+/// The first difference of a case, else the expected number. A fault is planted in our side's answer where it fits,
+/// and is then taken.
+pub fn held<C: Case>(case: &C, fault: &mut Option<Fault>) -> Result<u32, String> {
+    let expected = case.expected()?;
+    let mut outcome = case.ours();
+    if fault.is_some_and(|kind| kind.plant(&mut outcome, &case.places())) {
+        *fault = None;
+    }
+    compare(&expected, &outcome)?;
+    case.safe(&expected)?;
+    Ok(expected.number)
+}
+
+fn compare(expected: &Expected<'_>, outcome: &Outcome) -> Result<(), String> {
+    if expected.number != outcome.number {
+        return Err(format!("answer {} where {} is expected", outcome.number, expected.number));
+    }
+    if expected.outs != outcome.outs {
+        return Err(format!("numbers {:?} where {:?} are expected", outcome.outs, expected.outs));
+    }
+    assert_eq!(expected.lent.len(), outcome.lent.len(), "each lent buffer has its expectation");
+    for (index, (left, buffer)) in expected.lent.iter().zip(&outcome.lent).enumerate() {
+        let whole = match buffer {
+            Buffer::Bytes(bytes) => bytes.whole(),
+            Buffer::Words(words) => words.whole(),
+        };
+        if !whole {
+            return Err(format!("something was written before or past lent buffer {index}"));
+        }
+        match (left, buffer) {
+            (Left::Open, _) => {}
+            (Left::Bytes(want), Buffer::Bytes(got)) => same(index, want, got)?,
+            (Left::Noise(seed), Buffer::Bytes(got)) => same(index, &u8::noise(got.len(), *seed), got)?,
+            (Left::Noise(seed), Buffer::Words(got)) => same(index, &u64::noise(got.len(), *seed), got)?,
+            (Left::Bytes(_), Buffer::Words(_)) => unreachable!("words are noise or open"),
+        }
+    }
+    Ok(())
+}
+
+fn same<T: PartialEq + std::fmt::Debug>(index: usize, want: &[T], got: &[T]) -> Result<(), String> {
+    if want == got {
+        return Ok(());
+    }
+    let at = (0..want.len()).find(|&i| want[i] != got[i]).expect("the lengths are equal");
+    Err(format!("lent buffer {index} holds {:?} at {at} where {:?} is expected", got[at], want[at]))
+}
+
+/// The simplest case reached by taking each simplification that still differs.
+pub fn smallest<C: Case>(case: &C, what: String) -> (C, String) {
+    let (mut case, mut what) = (case.clone(), what);
+    let mut tries = 0;
+    'again: loop {
+        for next in case.smaller() {
+            tries += 1;
+            if tries > 20_000 {
+                return (case, what);
+            }
+            if let Err(found) = held(&next, &mut None) {
+                (case, what) = (next, found);
+                continue 'again;
+            }
+        }
+        return (case, what);
+    }
+}
+
+/// Bytes for a report, cut where they are many.
+pub fn listed(bytes: &[u8]) -> String {
+    const MOST: usize = 400;
+    if bytes.len() <= MOST {
+        format!("{} bytes {bytes:?}", bytes.len())
+    } else {
+        format!("{} bytes, the first {:?}", bytes.len(), &bytes[..MOST])
+    }
+}

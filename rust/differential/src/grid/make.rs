@@ -1,0 +1,118 @@
+//! Settings and pictures for grids.
+
+use super::build::Build;
+use crate::layouts::{picture, sides, spoil, EDGES};
+use crate::levels;
+use crate::rng::{Rng, Word};
+use crate::run::{same_defaults, Checked, Plan, Run};
+use imgproc::grid::{TileThresholdConfig, TileThresholdMethod};
+use imgproc::Geometry;
+use qr_lab_imgproc::threshold as theirs;
+
+const KS: [f64; 14] =
+    [0.2, 0.5, 1.0, 0.0, -0.0, -0.3, 3.5, 1e-310, f64::MIN_POSITIVE, 1e300, f64::MAX, f64::MIN, -1e-5, 0.34];
+const RANGES: [f64; 11] = [128.0, 127.5, 1.0, 0.25, 255.0, 1e9, 5e-324, f64::MIN_POSITIVE, 1e-300, f64::MAX, 100.0];
+const REFUSED: [f64; 3] = [f64::NAN, f64::INFINITY, f64::NEG_INFINITY];
+
+fn any_method(rng: &mut Rng) -> TileThresholdMethod {
+    if rng.one_in(3) {
+        return TileThresholdMethod::Midrange;
+    }
+    let k = if rng.one_in(2) { (rng.below(4001) as f64 - 2000.0) / 1000.0 } else { rng.pick(&KS) };
+    let dynamic_range = if rng.one_in(2) { rng.within(1, 3000) as f64 / 10.0 } else { rng.pick(&RANGES) };
+    TileThresholdMethod::Sauvola { k, dynamic_range }
+}
+
+/// Settings for a picture of these sides, with few enough tiles that wide neighbourhoods stay cheap.
+pub fn settings(rng: &mut Rng, width: usize, height: usize) -> TileThresholdConfig {
+    let tile = |rng: &mut Rng, side: usize| match rng.below(8) {
+        0 => rng.pick(&EDGES).max(side.div_ceil(12)),
+        1 => (side + 1).saturating_sub(rng.below(3)).max(1),
+        2 => 16.max(side.div_ceil(12)),
+        _ => side.div_ceil(rng.within(1, 12.min(side))),
+    };
+    TileThresholdConfig {
+        tile_width: tile(rng, width),
+        tile_height: tile(rng, height),
+        neighborhood_radius: match rng.below(6) {
+            0 => 0,
+            1..=3 => 1,
+            4 => rng.within(2, 14),
+            _ => rng.pick(&EDGES),
+        },
+        threshold_offset: match rng.below(5) {
+            0..=1 => 0,
+            2 => rng.below(600) as i16 - 300,
+            3 => rng.next() as i16,
+            _ => rng.pick(&[i16::MIN, -255, 255, 32_511, 32_512, 32_513, i16::MAX]),
+        },
+        contrast_floor: rng.pick(&[0, 1, 12, 12, 100, 255, rng.clone().byte()]),
+        method: any_method(rng),
+    }
+}
+
+pub fn random(run: &mut Run, rng: &mut Rng) -> Checked {
+    let (width, height) = sides(rng, 16);
+    let (src, g) = picture(rng, width, height);
+    let config = settings(rng, width, height);
+    let mut case = Build::exact(src, g, config, rng.next());
+    if rng.one_in(3) {
+        case.room += rng.below(20);
+        case.thresholds += rng.below(9);
+        case.skips += rng.below(9);
+    }
+    match rng.below(24) {
+        0..=1 => spoil(rng, &mut case.src, &mut case.g),
+        2 => case.config.tile_width = 0,
+        3 => case.config.tile_height = 0,
+        4 => case.method = rng.pick(&[2, 3, u32::MAX]),
+        5 => case.k = rng.pick(&REFUSED),
+        6 => case.dynamic_range = rng.pick(&[REFUSED[0], REFUSED[1], REFUSED[2], 0.0, -0.0, -1.0, -5e-324, f64::MIN]),
+        7 => case.room = rng.below(case.room),
+        8 => case.room -= 1,
+        9 => case.thresholds = rng.below(case.thresholds),
+        10 => case.skips = rng.below(case.skips),
+        11 => (case.room, case.skips) = (rng.below(case.room), 0),
+        _ => {}
+    }
+    run.case(&case)
+}
+
+pub fn fixed(run: &mut Run, plan: &Plan) -> Checked {
+    let (usual, rust) = (TileThresholdConfig::default(), theirs::TileThresholdConfig::default());
+    same_defaults(
+        "tile_grid_build",
+        (usual.tile_width, usual.tile_height, usual.neighborhood_radius, usual.threshold_offset, usual.contrast_floor),
+        (rust.tile_width, rust.tile_height, rust.neighborhood_radius, rust.threshold_offset, rust.contrast_floor),
+    )?;
+    let midrange =
+        (usual.method == TileThresholdMethod::Midrange, rust.method == theirs::TileThresholdMethod::Midrange);
+    same_defaults("tile_grid_build", midrange, (true, true))?;
+    let sauvola = TileThresholdMethod::Sauvola { k: 0.2, dynamic_range: 128.0 };
+    for method in [TileThresholdMethod::Midrange, sauvola] {
+        for (tile_width, tile_height, neighborhood_radius) in [(1, 1, 0), (1, 1, 1), (2, 2, 0), (2, 1, 1), (16, 16, 1)]
+        {
+            let config = TileThresholdConfig { tile_width, tile_height, neighborhood_radius, method, ..usual };
+            levels::all(plan.two_levels.min(9), &[0, 12], |src, w, h, seed| {
+                run.case(&Build::exact(src, Geometry::packed(w, h), config, seed))
+            })?;
+        }
+    }
+    // Every pair of samples as minimum and maximum of one tile.
+    for low in 0..=255 {
+        for high in low..=255 {
+            for method in [TileThresholdMethod::Midrange, sauvola] {
+                let config = TileThresholdConfig { method, ..usual };
+                run.case(&Build::exact(vec![low, high], Geometry::packed(2, 1), config, 6))?;
+            }
+        }
+    }
+    for (width, height) in [(4096, 1), (1, 4096), (640, 480)] {
+        for method in [TileThresholdMethod::Midrange, sauvola] {
+            let src = u8::noise(width * height, 7);
+            let config = TileThresholdConfig { method, ..usual };
+            run.case(&Build::exact(src, Geometry::packed(width, height), config, 8))?;
+        }
+    }
+    Ok(())
+}

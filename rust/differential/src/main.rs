@@ -1,0 +1,172 @@
+//! The library and the published Rust on the same inputs: `differential short`, `differential long` or
+//! `differential self-test`. The first difference ends the run with the smallest input found and a status that is not 0.
+
+// A part may serve only subjects that are not in the list below.
+#![allow(dead_code)]
+
+mod case;
+mod document;
+mod fault;
+mod guard;
+mod layouts;
+mod levels;
+mod plain;
+mod rng;
+mod run;
+mod rust;
+mod through;
+
+use rng::Rng;
+use run::{Difference, Plan, Run, Subject};
+use std::process::ExitCode;
+use std::time::{Duration, Instant};
+
+macro_rules! subjects {
+    ($($subject:ident)*) => {
+        $(mod $subject;)*
+        const SUBJECTS: &[&[Subject]] = &[$($subject::SUBJECTS),*];
+    };
+}
+
+// A subject is run when its line stands here and its module in imgproc.
+subjects! {
+    image
+}
+
+const SEED: u64 = 20_261_017;
+const SHORT: Plan = Plan { two_levels: 9, three_levels: 5, large: false };
+const LONG: Plan = Plan { two_levels: 12, three_levels: 6, large: true };
+const USAGE: &str = "differential short | long [--seed N] [--minutes M | --scale K] | self-test";
+
+/// How long random rounds go on.
+enum Rounds {
+    Scale(u64),
+    Minutes(u64),
+}
+
+fn main() -> ExitCode {
+    let words: Vec<String> = std::env::args().skip(1).collect();
+    let outcome = match words.first().map(String::as_str) {
+        Some("short") if words.len() == 1 => self_test().and_then(|()| compared(&SHORT, SEED, Rounds::Scale(1))),
+        Some("self-test") if words.len() == 1 => self_test(),
+        Some("long") => match long(&words[1..]) {
+            Some((seed, rounds)) => self_test().and_then(|()| compared(&LONG, seed, rounds)),
+            None => Err(format!("usage: {USAGE}")),
+        },
+        _ => Err(format!("usage: {USAGE}")),
+    };
+    match outcome {
+        Ok(()) => ExitCode::SUCCESS,
+        Err(line) => {
+            println!("{line}");
+            ExitCode::FAILURE
+        }
+    }
+}
+
+fn long(words: &[String]) -> Option<(u64, Rounds)> {
+    let (mut seed, mut rounds) = (SEED, Rounds::Scale(10));
+    for pair in words.chunks(2) {
+        let [word, number] = pair else {
+            return None;
+        };
+        let number = number.parse().ok()?;
+        match word.as_str() {
+            "--seed" => seed = number,
+            "--scale" => rounds = Rounds::Scale(number),
+            "--minutes" => rounds = Rounds::Minutes(number),
+            _ => return None,
+        }
+    }
+    Some((seed, rounds))
+}
+
+fn subjects() -> impl Iterator<Item = &'static Subject> {
+    SUBJECTS.iter().flat_map(|list| list.iter())
+}
+
+/// Fixed cases, then rounds of random ones; then the table, and whether each subject had what it should have.
+fn compared(plan: &Plan, seed: u64, rounds: Rounds) -> Result<(), String> {
+    println!("seed {seed}");
+    let start = Instant::now();
+    let mut run = Run::default();
+    let told = |Difference(what)| format!("difference in {what}");
+    for subject in subjects() {
+        (subject.fixed)(&mut run, plan).map_err(told)?;
+    }
+    let mut round = 0;
+    loop {
+        for subject in subjects() {
+            let mut rng = stream(seed, subject.name, round);
+            for _ in 0..subject.round {
+                (subject.random)(&mut run, &mut rng).map_err(told)?;
+            }
+        }
+        round += 1;
+        let done = match rounds {
+            Rounds::Scale(scale) => round >= scale,
+            Rounds::Minutes(minutes) => start.elapsed() >= Duration::from_secs(60 * minutes),
+        };
+        if done {
+            break;
+        }
+    }
+    table(&run);
+    println!("{round} rounds of random cases, {} s", start.elapsed().as_secs());
+    for subject in subjects() {
+        let count = run.counts.get(subject.name).cloned().unwrap_or_default();
+        if let Some(number) = [0].iter().chain(subject.refuses).find(|number| !count.contains_key(number)) {
+            return Err(format!("{} has no case of number {number}", subject.name));
+        }
+    }
+    Ok(())
+}
+
+/// A stream of its own for each subject and round, so that adding a subject moves no other one's cases.
+fn stream(seed: u64, name: &str, round: u64) -> Rng {
+    let named = name.bytes().fold(seed, |hash, byte| (hash ^ u64::from(byte)).wrapping_mul(0x100_0000_01b3));
+    Rng::new(Rng::new(named ^ round << 40).next())
+}
+
+fn table(run: &Run) {
+    println!("| call | accepted | refused | refused, by number |\n|---|---|---|---|");
+    let (mut all_accepted, mut all_refused) = (0, 0);
+    for subject in subjects() {
+        let mut count = run.counts.get(subject.name).cloned().unwrap_or_default();
+        let accepted = count.remove(&0).unwrap_or(0);
+        let refused: u64 = count.values().sum();
+        let numbers: Vec<String> = count.iter().map(|(number, cases)| format!("{number}: {cases}")).collect();
+        println!("| {} | {accepted} | {refused} | {} |", subject.name, numbers.join(", "));
+        all_accepted += accepted;
+        all_refused += refused;
+    }
+    println!("| all | {all_accepted} | {all_refused} | |");
+}
+
+/// Plants each fault of each subject in our side's answer and sees that it is reported.
+fn self_test() -> Result<(), String> {
+    let mut seen = 0;
+    for subject in subjects() {
+        for &fault in subject.faults {
+            let mut run = Run { fault: Some(fault), ..Run::default() };
+            let mut rng = Rng::new(SEED);
+            let mut reported = false;
+            for _ in 0..20_000 {
+                let checked = (subject.random)(&mut run, &mut rng);
+                if run.fault.is_none() {
+                    reported = checked.is_err();
+                    break;
+                }
+                if let Err(Difference(what)) = checked {
+                    return Err(format!("difference in {what}"));
+                }
+            }
+            if !reported {
+                return Err(format!("self-test: {fault:?} in {} was not reported", subject.name));
+            }
+            seen += 1;
+        }
+    }
+    println!("self-test: {seen} planted faults, each reported");
+    Ok(())
+}

@@ -1,0 +1,75 @@
+//! Runs cases, counts them by subject, and stops at the first difference.
+
+use crate::case::{held, smallest, Case};
+use crate::fault::Fault;
+use crate::rng::Rng;
+use std::collections::BTreeMap;
+
+/// A difference, told with the smallest input found.
+pub struct Difference(pub String);
+
+pub type Checked = Result<(), Difference>;
+
+/// Whether default settings are the Rust's, both given as one tuple of the same fields.
+pub fn same_defaults<T: PartialEq>(call: &str, ours: T, rust: T) -> Checked {
+    if ours == rust {
+        Ok(())
+    } else {
+        Err(Difference(format!("{call}: the default settings")))
+    }
+}
+
+/// How much of the fixed cases is run.
+#[derive(Clone, Copy)]
+pub struct Plan {
+    /// Pixels of the two-level pictures that are all run.
+    pub two_levels: usize,
+    /// Pixels of the three-level pictures that are all run.
+    pub three_levels: usize,
+    /// Whether the largest pictures are run.
+    pub large: bool,
+}
+
+pub struct Subject {
+    pub name: &'static str,
+    /// The numbers that it can refuse with; each has to come up.
+    pub refuses: &'static [u32],
+    /// Faults that its comparison has to report.
+    pub faults: &'static [Fault],
+    /// Cases of one round of random ones.
+    pub round: u64,
+    pub random: fn(&mut Run, &mut Rng) -> Checked,
+    /// Exhaustive and boundary cases.
+    pub fixed: fn(&mut Run, &Plan) -> Checked,
+}
+
+pub fn no_fixed(_: &mut Run, _: &Plan) -> Checked {
+    Ok(())
+}
+
+/// Cases by their number; 0 is accepted.
+pub type Count = BTreeMap<u32, u64>;
+
+#[derive(Default)]
+pub struct Run {
+    pub counts: BTreeMap<&'static str, Count>,
+    /// The fault to plant at the first case that it fits.
+    pub fault: Option<Fault>,
+}
+
+impl Run {
+    pub fn case<C: Case>(&mut self, case: &C) -> Checked {
+        let pending = self.fault.is_some();
+        match held(case, &mut self.fault) {
+            Ok(number) => {
+                *self.counts.entry(case.name()).or_default().entry(number).or_default() += 1;
+                Ok(())
+            }
+            Err(what) if pending && self.fault.is_none() => Err(Difference(what)),
+            Err(what) => {
+                let (case, what) = smallest(case, what);
+                Err(Difference(format!("{}: {what}\n{}", case.name(), case.tell())))
+            }
+        }
+    }
+}

@@ -1,0 +1,26 @@
+//! Finds the static library: in $IMGPROC_LIB_DIR, else where `rt staticlib imgproc_c` writes it.
+
+use std::env;
+use std::path::PathBuf;
+use std::process::exit;
+
+const ARCHIVE: &str = "libimgproc_c.a";
+
+fn main() {
+    println!("cargo:rerun-if-env-changed=IMGPROC_LIB_DIR");
+    let folder = match env::var_os("IMGPROC_LIB_DIR") {
+        Some(folder) => PathBuf::from(folder),
+        None => {
+            let here = env::var_os("CARGO_MANIFEST_DIR").expect("cargo sets CARGO_MANIFEST_DIR");
+            PathBuf::from(here).join("../../target/staticlib")
+        }
+    };
+    let archive = folder.join(ARCHIVE);
+    println!("cargo:rerun-if-changed={}", archive.display());
+    if !archive.is_file() {
+        eprintln!("no {ARCHIVE} in {}: run `rt staticlib imgproc_c`, or set IMGPROC_LIB_DIR", folder.display());
+        exit(1);
+    }
+    println!("cargo:rustc-link-search=native={}", folder.display());
+    println!("cargo:rustc-link-lib=static=imgproc_c");
+}

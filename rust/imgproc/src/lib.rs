@@ -1,0 +1,50 @@
+//! Safe Rust calls over the proved image-processing library.
+//!
+//! A picture is a slice of bytes and a [`Geometry`]: pixel (x, y) is the byte at y * stride + x. Every call takes
+//! slices and gives a `Result`; a refused call leaves every slice as it was. Workspaces are lent: each module has a
+//! function that tells the length that is needed.
+//!
+//! ```
+//! use imgproc::{image, Geometry, LumaError, Refusal};
+//!
+//! // Two rows of three pixels, the first with a byte of padding.
+//! let mut data = [10, 20, 30, 0, 40, 50, 60];
+//! let geometry = Geometry { width: 3, height: 2, stride: 4 };
+//! assert_eq!(image::get(&data, geometry, 1, 1), Ok(50));
+//! image::set(&mut data, geometry, 0, 1, 41)?;
+//! assert_eq!(image::row(&data, geometry, 1)?, [41, 50, 60]);
+//! assert_eq!(image::get(&data, geometry, 3, 0), Err(Refusal::Image(LumaError::OutsidePicture)));
+//! # Ok::<(), Refusal>(())
+//! ```
+//!
+//! The C interface wants valid pointers, true lengths and no overlap between what is written and anything else. Rust's
+//! `&` and `&mut` see to all three, so no call here is unsafe. In each module `flat` has the same calls as C sees them,
+//! with slices for pointers: the refusal's number comes back, and values go out through references.
+
+mod refusal;
+pub use refusal::{LumaError, Refusal};
+
+pub mod image;
+
+/// The largest side of a picture.
+pub const MAX_SIDE: usize = 4096;
+
+/// The sides of a picture and the distance from one row's first byte to the next one's.
+#[derive(Clone, Copy, Debug, PartialEq, Eq, Hash)]
+pub struct Geometry {
+    pub width: usize,
+    pub height: usize,
+    pub stride: usize,
+}
+
+impl Geometry {
+    /// Rows that follow each other without padding.
+    pub const fn packed(width: usize, height: usize) -> Self {
+        Self { width, height, stride: width }
+    }
+
+    /// The number of pixels; the largest usize where it does not fit.
+    pub const fn area(&self) -> usize {
+        self.width.saturating_mul(self.height)
+    }
+}

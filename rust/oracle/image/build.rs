@@ -1,0 +1,8 @@
+//! Copies the published picture crate for lib.rs to include.
+
+include!("../source.rs");
+
+fn main() {
+    let folder = source("qr-lab-image");
+    write("lib.rs", &without_crate_lines(&read(&folder.join("lib.rs"))));
+}
