@@ -4,4 +4,10 @@ pub mod Fold
 pub mod Reach
 pub mod Extremes
 pub mod Walks
+pub mod Compared
+pub mod Morphology
+pub mod Sweeps
+pub mod MorphologyCalls
+pub mod MorphologyLaws
 pub mod Division
+pub mod Pictures

@@ -26,9 +26,9 @@ reachFrom k n i = cond (oneBlock k n i) (k * (low (radius k) i / k)) (low (radiu
 unfoldable pub reachTo : ℕ → ℕ → ℕ → ℕ
 reachTo k n i = cond (oneBlock k n i) (min (k * (low (radius k) i / k) + k - 1) (n - 1)) (high (radius k) n i)
 
--- the reach of x times the reach of y
-abbrev pub reachBox : ℕ → ℕ → ℕ → ℕ → ℕ → Box
-reachBox k w h x y = record { left = reachFrom k w x; right = reachTo k w x; top = reachFrom k h y; bottom = reachTo k h y }
+-- the reach of x times the reach of y, with the kernel kx along the rows and ky along the columns
+abbrev pub reachBox : ℕ → ℕ → ℕ → ℕ → ℕ → ℕ → Box
+reachBox kx ky w h x y = record { left = reachFrom kx w x; right = reachTo kx w x; top = reachFrom ky h y; bottom = reachTo ky h y }
 
 -- how many indices below n pass a test: a walk along the line
 unfoldable pub walk : (ℕ → Bool) → ℕ → ℕ
@@ -49,9 +49,13 @@ joinAt i = true
 abbrev pub lineWalks : ℕ → ℕ → ℕ
 lineWalks k n = walk (forwardAt k) n + walk (backwardAt k n) n + walk joinAt n
 
--- of an erosion or a dilation: a sweep of each of h rows of w, and of each of w columns of h
+-- the sum of the walks of a sweep of each of h rows of w, with the kernel kx, and of each of w columns of h, with ky
+abbrev pub rectWalks : ℕ → ℕ → ℕ → ℕ → ℕ
+rectWalks kx ky w h = h * lineWalks kx w + w * lineWalks ky h
+
+-- of an erosion or a dilation
 abbrev pub sweepWalks : ℕ → ℕ → ℕ → ℕ
-sweepWalks k w h = h * lineWalks k w + w * lineWalks k h
+sweepWalks k w h = rectWalks k k w h
 
 -- ⌈n / k⌉
 abbrev pub ceiling : ℕ → ℕ → ℕ

@@ -1,7 +1,10 @@
 -- What is turned back, and with which number: the first condition that fits counts. Definitions only.
 use Prim.Native.Nat.{ℕ, _*_, _%_}
+use mathlib.Core.Path.{_≡_}
 use mathlib.Core.Bool.{Bool, cond, not, _&&_, _||_}
+use mathlib.Core.List.{List}
 use lib.Dec.{ltb, eqb}
+use lib.ListN.{length}
 use Rattle.image.specs.declared.Geometry.{Geometry}
 use Rattle.image.specs.declared.Layout.{Layout}
 use Rattle.image.specs.declared.Layout.the-variants.{Valid, Invalid}
@@ -45,3 +48,20 @@ pairCheck srcLen src dstLen dst =
 -- a kernel is odd and at least 3
 abbrev pub badKernel : ℕ → Bool
 badKernel k = ltb k 3 || eqb (k % 2) 0
+
+-- a lent destination at exit: what an accepted call leaves there, or as it was
+abbrev pub leftBy : Check → List ℕ → List ℕ → List ℕ
+leftBy Accepted after before = after
+leftBy (Refused e) after before = before
+
+-- a lent workspace at exit: as it was where the call is refused, and else open but for its length
+abbrev pub Lent : Check → List ℕ → List ℕ → Type 0
+Lent Accepted before after = length after ≡ length before
+Lent (Refused e) before after = after ≡ before
+
+-- Morphology: the layouts; 5; the kernel; the byte workspace under 6wh
+abbrev pub morphologyCheck : ℕ → Geometry → ℕ → Geometry → ℕ → ℕ → Check
+morphologyCheck srcLen src dstLen dst kernel room =
+    pairCheck srcLen src dstLen dst then
+    refusedIf (badKernel kernel) InvalidKernel then
+    refusedIf (ltb room (6 * (src .width * src .height))) WorkspaceTooSmall

@@ -3,7 +3,7 @@ use mathlib.Core.Path.{_≡_, refl, sym, ap, _∙_}
 use mathlib.Core.Bool.{Bool, true, false, not, _&&_}
 use mathlib.Core.Logic.{_⊎_, inl, inr, ⊎-elim}
 use Prim.Native.Nat.{ℕ, zero, suc, _+_, _-_, _*_, _/_, _%_, _≤_, _<_}
-use native.Mathlib.Nat.{zero-mod, eq-or-lt-of-le, div-add-mod, mod-lt, div-eq-of-lt-le}
+use native.Mathlib.Nat.{zero-mod, eq-or-lt-of-le, div-add-mod, mod-lt, div-eq-of-lt-le, le-div-iff-mul-le, mul-le-mul-left}
 use native.Mathlib.Numerals.{add-one}
 use native.Mathlib.Omega.{arith}
 use lib.Dec.{eqb}
@@ -12,7 +12,7 @@ use Rattle.imgproc.specs.Fold.{bit}
 use Rattle.imgproc.specs.Reach.{walk, forwardAt, backwardAt, joinAt, ceiling, lineWalks, sweepWalks, R}
 
 -- two numbers, by order
-cases : (a b : ℕ) {C : Type 0} → (a ≡ b → C) → (a < b → C) → (b < a → C) → C
+pub cases : (a b : ℕ) {C : Type 0} → (a ≡ b → C) → (a < b → C) → (b < a → C) → C
 cases a b e l g = ⊎-elim (λ p. ⊎-elim e l (eq-or-lt-of-le p)) (λ q. ⊎-elim (λ s. e (sym s)) g (eq-or-lt-of-le q)) (le-or a b)
   where
     le-or : (a b : ℕ) → (a ≤ b) ⊎ (b ≤ a)
@@ -21,11 +21,11 @@ cases a b e l g = ⊎-elim (λ p. ⊎-elim e l (eq-or-lt-of-le p)) (λ q. ⊎-el
     le-or (suc a) (suc b) = ⊎-elim (λ p. inl (omega arith)) (λ q. inr (omega arith)) (le-or a b)
 
 -- i lies in the block that starts at k * q
-quotient : (k q i : ℕ) → k * q ≤ i → i < k * q + k → i / k ≡ q
+pub quotient : (k q i : ℕ) → k * q ≤ i → i < k * q + k → i / k ≡ q
 quotient k q i l h = div-eq-of-lt-le k (omega arith) (omega arith)
 
 -- an index's place in its block
-place : (k i : ℕ) → 0 < k → (k * (i / k) + i % k ≡ i) × (i % k < k)
+pub place : (k i : ℕ) → 0 < k → (k * (i / k) + i % k ≡ i) × (i % k < k)
 place k i p = (div-add-mod i k, mod-lt i p)
 
 -- walks of tests that agree below n
@@ -42,6 +42,23 @@ shift-walk : (p : ℕ → Bool) (n : ℕ) → walk p (suc n) ≡ bit (p 0) + wal
 unfolding walk
 shift-walk p zero = omega arith
 shift-walk p (suc n) = let h = shift-walk p n in omega arith
+
+pub walk-more : (p : ℕ → Bool) (i : ℕ) → walk p (i + 1) ≡ walk p i + bit (p i)
+unfolding walk
+walk-more p i = rw (add-one i)
+
+-- a walk counts no more than the line has
+pub walk-le : (p : ℕ → Bool) (n : ℕ) → walk p n ≤ n
+unfolding walk
+walk-le p zero = omega arith
+walk-le p (suc n) = let h = walk-le p n in one (p n) h
+  where
+    one : (b : Bool) → walk p n ≤ n → walk p n + bit b ≤ suc n
+    one true h = omega arith
+    one false h = omega arith
+
+pub line-walks-le : (k n : ℕ) → lineWalks k n ≤ 3 * n
+line-walks-le k n = omega (arith, walk-le (forwardAt k) n, walk-le (backwardAt k n) n, walk-le joinAt n)
 
 join-walk : (n : ℕ) → walk joinAt n ≡ n
 unfolding walk
@@ -98,3 +115,19 @@ module _ (k : ℕ) (pos : 0 < k) where
   pub sweep-walks : (w h : ℕ) → sweepWalks k w h ≡ R k w h
   unfolding R
   sweep-walks w h = rw (line-walks w, line-walks h)
+
+-- b lines of a, each with at least 2 fewer than 3a
+fewer : (a b p : ℕ) → p + 2 ≤ 3 * a → b * p + 2 * b ≤ 3 * (a * b)
+fewer a b p l = let h : b * (p + 2) ≤ b * (3 * a) = mul-le-mul-left b l in omega arith
+
+-- R(k) is below 6wh, so that a closing with k and an opening with m make fewer than 24wh comparisons
+module _ (w h : ℕ) (wide : 0 < w) (tall : 0 < h) where
+  pub sweep-below : (k : ℕ) → 0 < k → R k w h < 6 * (w * h)
+  unfolding R
+  sweep-below k pos =
+      let across : 1 ≤ ceiling w k = le-div-iff-mul-le {k = k} {x = 1} {y = w + k - 1} pos .1 (omega arith) in
+      let down : 1 ≤ ceiling h k = le-div-iff-mul-le {k = k} {x = 1} {y = h + k - 1} pos .1 (omega arith) in
+      omega (arith, fewer w h (3 * w - 2 * ceiling w k) (omega arith), fewer h w (3 * h - 2 * ceiling h k) (omega arith))
+
+  pub reading-below : (k m : ℕ) → 0 < k → 0 < m → 2 * R k w h + 2 * R m w h < 24 * (w * h)
+  reading-below k m K M = omega (arith, sweep-below k K, sweep-below m M)

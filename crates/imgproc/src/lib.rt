@@ -1,5 +1,10 @@
 // Operators on grey pictures: what each refuses, by kind and by number.
 pub mod illumination;
+pub mod morphology;
+mod rect;
+mod sweeps;
+mod tally;
+
 
 use image::Layout;
 use image::LumaError;

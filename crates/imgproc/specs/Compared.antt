@@ -1,0 +1,21 @@
+-- Document 01, part 2: a comparison of two samples. Definitions only.
+use mathlib.Core.Path.{_≡_}
+use mathlib.Core.Bool.{Bool, true, false}
+use Prim.Native.Nat.{ℕ, _+_, min, max}
+use Rattle.imgproc.specs.Extremes.{Low, High}
+use Rattle.imgproc.specs.declared.tally.Tally.{Tally}
+use Rattle.imgproc.specs.declared.tally.Met.{Met}
+
+-- a comparison: the extreme of the two samples, and the tally raised by 1
+pub record Compares (extreme : ℕ) (tally : Tally) (met : Met) : Type 0 where
+  pub chosen : met .value ≡ extreme
+  pub counted : met .tally .comparisons ≡ tally .comparisons + 1
+
+-- one sweep serves both orders: the side is true for the lesser of two samples and false for the greater
+abbrev pub Before : Bool → ℕ → ℕ → Type 0
+Before true a b = Low a b
+Before false a b = High a b
+
+abbrev pub first : Bool → ℕ → ℕ → ℕ
+first true a b = min a b
+first false a b = max a b

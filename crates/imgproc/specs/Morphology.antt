@@ -1,0 +1,31 @@
+-- Document 01, parts 2 and 4: erosion, dilation, opening and closing, from packed picture to packed picture. Definitions only.
+use Prim.Native.Nat.{ℕ, min, max}
+use mathlib.Core.List.{List}
+use Rattle.image.specs.Plane.{plane, pixel}
+use Rattle.imgproc.specs.Fold.{foldBox}
+use Rattle.imgproc.specs.Reach.{reachFrom, reachTo, reachBox}
+
+-- at each pixel the extreme over the reach of x times the reach of y, with a kernel for the rows and one for the columns
+unfoldable pub sweptRect : (ℕ → ℕ → ℕ) → ℕ → ℕ → ℕ → ℕ → List ℕ → List ℕ
+unfolding plane foldBox reachFrom reachTo
+sweptRect op kx ky w h p = plane w h (λ x y. foldBox op (pixel p w) (reachBox kx ky w h x y))
+
+-- with the kernel k
+abbrev pub swept : (ℕ → ℕ → ℕ) → ℕ → ℕ → ℕ → List ℕ → List ℕ
+swept op k w h p = sweptRect op k k w h p
+
+-- erosion: the minimum
+abbrev pub eroded : ℕ → ℕ → ℕ → List ℕ → List ℕ
+eroded k w h p = swept min k w h p
+
+-- dilation: the maximum
+abbrev pub dilated : ℕ → ℕ → ℕ → List ℕ → List ℕ
+dilated k w h p = swept max k w h p
+
+-- opening erodes, then dilates
+abbrev pub opened : ℕ → ℕ → ℕ → List ℕ → List ℕ
+opened k w h p = dilated k w h (eroded k w h p)
+
+-- closing dilates, then erodes
+abbrev pub closed : ℕ → ℕ → ℕ → List ℕ → List ℕ
+closed k w h p = eroded k w h (dilated k w h p)

@@ -1,0 +1,93 @@
+-- The contracts of the four morphology calls: what each answers, and what it leaves in the lent buffers. Definitions only.
+use Prim.Native.Nat.{ℕ, _+_, _*_, _^_, _≤_, _<_}
+use mathlib.Core.Path.{_≡_}
+use mathlib.Core.List.{List}
+use lib.ListN.{length}
+use Rattle.image.specs.declared.Geometry.{Geometry}
+use Rattle.image.specs.Layout.{Kept}
+use Rattle.image.specs.Plane.{packed, painted, part}
+use Rattle.imgproc.specs.declared.Check.{Check}
+use Rattle.imgproc.specs.declared.Check.the-variants.{Accepted, Refused}
+use Rattle.imgproc.specs.declared.morphology.Operation.{Operation}
+use Rattle.imgproc.specs.declared.morphology.Operation.the-variants.{Erode, Dilate, Open, Close}
+use Rattle.imgproc.specs.declared.morphology.Compared.{Compared}
+use Rattle.imgproc.specs.declared.morphology.Compared.the-variants.{Comparisons, Refused as Compared·Refused}
+use Rattle.imgproc.specs.declared.tally.Tally.{Tally}
+use Rattle.imgproc.specs.Reach.{sweepWalks, R}
+use Rattle.imgproc.specs.Refusals.{morphologyCheck, leftBy, Lent}
+use Rattle.imgproc.specs.Morphology.{eroded, dilated, opened, closed}
+
+-- the packed picture that an operation makes
+abbrev pub operated : Operation → ℕ → ℕ → ℕ → List ℕ → List ℕ
+operated Erode k w h p = eroded k w h p
+operated Dilate k w h p = dilated k w h p
+operated Open k w h p = opened k w h p
+operated Close k w h p = closed k w h p
+
+-- its comparisons: one erosion or dilation, or two
+abbrev pub operationWalks : Operation → ℕ → ℕ → ℕ → ℕ
+operationWalks Erode k w h = sweepWalks k w h
+operationWalks Dilate k w h = sweepWalks k w h
+operationWalks Open k w h = 2 * sweepWalks k w h
+operationWalks Close k w h = 2 * sweepWalks k w h
+
+-- the same by R(k): that they are is `operation-walks` of MorphologyLaws
+abbrev pub operationR : Operation → ℕ → ℕ → ℕ → ℕ
+operationR Erode k w h = R k w h
+operationR Dilate k w h = R k w h
+operationR Open k w h = 2 * R k w h
+operationR Close k w h = 2 * R k w h
+
+-- the answer of a call that counts: its comparisons, or the refusal
+abbrev pub compared : Check → ℕ → Compared
+compared Accepted n = Comparisons n
+compared (Refused e) n = Compared·Refused e
+
+-- the contract of a morphology call: the source and its geometry, the destination and its own, the kernel and the workspace; then the answer, and both buffers at exit
+pub record Applies (operation : Operation) (src : List ℕ) (source : Geometry) (dst : List ℕ) (target : Geometry) (k : ℕ) (ws : List ℕ) (answer : Compared) (dst′ ws′ : List ℕ) : Type 0 where
+  pub answers : answer ≡ compared (morphologyCheck (length src) source (length dst) target k (length ws)) (operationWalks operation k (source .width) (source .height))
+  pub leaves : dst′
+      ≡ leftBy (morphologyCheck (length src) source (length dst) target k (length ws))
+      (painted (operated operation k (source .width) (source .height) (packed src (source .width) (source .height) (source .stride))) (source .width) (source .height) (target .stride) dst)
+      dst
+  pub workspace : Lent (morphologyCheck (length src) source (length dst) target k (length ws)) ws ws′
+
+-- ---- inside: what the parts of an accepted call ask and leave
+
+-- an operation from the first plane of the workspace to the second
+pub record OperateReady (tally : Tally) (d : List ℕ) (k w h : ℕ) : Type 0 where
+  pub fits : 6 * (w * h) ≤ length d
+  pub kernel : 0 < k
+  pub wide : 0 < w
+  pub room : tally .comparisons + 12 * (w * h) < 2 ^ 64
+
+pub record Operated (operation : Operation) (tally : Tally) (d : List ℕ) (k w h : ℕ) (raised : Tally) (d′ : List ℕ) : Type 0 where
+  pub leaves : part (w * h) (w * h) d′ ≡ operated operation k w h (part 0 (w * h) d)
+  pub counted : raised .comparisons ≡ tally .comparisons + operationWalks operation k w h
+  pub long : length d′ ≡ length d
+
+-- the same with a tally of its own
+pub record CountReady (d : List ℕ) (k w h : ℕ) : Type 0 where
+  pub fits : 6 * (w * h) ≤ length d
+  pub kernel : 0 < k
+  pub wide : 0 < w
+  pub room : 12 * (w * h) < 2 ^ 64
+
+pub record Counts (operation : Operation) (d : List ℕ) (k w h n : ℕ) (d′ : List ℕ) : Type 0 where
+  pub leaves : part (w * h) (w * h) d′ ≡ operated operation k w h (part 0 (w * h) d)
+  pub counted : n ≡ operationWalks operation k w h
+  pub long : length d′ ≡ length d
+
+-- from picture to picture
+pub record RunReady (src : List ℕ) (source : Geometry) (dst : List ℕ) (target : Geometry) (k : ℕ) (ws : List ℕ) : Type 0 where
+  pub from : Kept (length src) source
+  pub to : Kept (length dst) target
+  pub wide : source .width ≡ target .width
+  pub high : source .height ≡ target .height
+  pub kernel : 0 < k
+  pub fits : 6 * (source .width * source .height) ≤ length ws
+
+pub record Runs (operation : Operation) (src : List ℕ) (source : Geometry) (dst : List ℕ) (target : Geometry) (k : ℕ) (ws : List ℕ) (n : ℕ) (dst′ ws′ : List ℕ) : Type 0 where
+  pub leaves : dst′ ≡ painted (operated operation k (source .width) (source .height) (packed src (source .width) (source .height) (source .stride))) (source .width) (source .height) (target .stride) dst
+  pub counted : n ≡ operationWalks operation k (source .width) (source .height)
+  pub long : length ws′ ≡ length ws

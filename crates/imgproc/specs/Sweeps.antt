@@ -1,0 +1,178 @@
+-- Document 01, part 2: what the passes and sweeps over planes of one workspace ask and leave. Definitions only.
+-- A plane stands at an offset of the workspace: h lines of w lanes each, line y at y × w, so that lane x is a column of the plane.
+use mathlib.Core.Path.{_≡_}
+use mathlib.Core.Bool.{Bool}
+use mathlib.Core.List.{List}
+use mathlib.Core.Logic.{_⊎_}
+use Prim.Native.Nat.{ℕ, _+_, _-_, _*_, _/_, _^_, _≤_, _<_, min}
+use lib.ListN.{length, getD}
+use Rattle.image.specs.Plane.{part}
+use Rattle.imgproc.specs.declared.tally.Tally.{Tally}
+use Rattle.imgproc.specs.Extremes.{Extreme, Between}
+use Rattle.imgproc.specs.Reach.{low, high, radius, reachFrom, reachTo, walk, forwardAt, backwardAt, joinAt, lineWalks, rectWalks, sweepWalks}
+use Rattle.imgproc.specs.Compared.{Before, first}
+use Rattle.imgproc.specs.Morphology.{sweptRect}
+
+-- the sample of lane x on line y of the plane at `at`
+abbrev pub lane : List ℕ → ℕ → ℕ → ℕ → ℕ → ℕ
+lane d at w x y = getD d (at + (y * w + x)) 0
+
+-- two stretches, m numbers from a on and n numbers from b on, that have none in common
+pub record Apart (a m b n : ℕ) : Type 0 where
+  pub sides : (a + m ≤ b) ⊎ (b + n ≤ a)
+
+-- a place j outside the n numbers from `at` on
+pub record Off (at n j : ℕ) : Type 0 where
+  pub side : (j < at) ⊎ (at + n ≤ j)
+
+-- d′ is d but for the n numbers from `at` on
+pub record Outside (at n : ℕ) (d d′ : List ℕ) : Type 0 where
+  pub long : length d′ ≡ length d
+  pub before : (j : ℕ) → j < at → getD d′ j 0 ≡ getD d j 0
+  pub after : (j : ℕ) → at + n ≤ j → getD d′ j 0 ≡ getD d j 0
+
+-- d′ is d with the w numbers from `at` on replaced by g
+pub record Rowed (at w : ℕ) (g : ℕ → ℕ) (d d′ : List ℕ) : Type 0 where
+  pub each : (x : ℕ) → x < w → getD d′ (at + x) 0 ≡ g x
+  pub rest : Outside at w d d′
+
+-- d′ is d but for the n numbers from `to` on and the m numbers from `spare` on
+pub record Spared (to n spare m : ℕ) (d d′ : List ℕ) : Type 0 where
+  pub long : length d′ ≡ length d
+  pub same : (j : ℕ) → Off to n j → Off spare m j → getD d′ j 0 ≡ getD d j 0
+
+-- forward: the extreme so far of the block of i; backward: of the rest of its block, clipped to the line of n; and of its reach
+abbrev pub Forwards : (ℕ → ℕ → Type 0) → ℕ → (ℕ → ℕ) → ℕ → ℕ → Type 0
+Forwards R k f i v = Extreme R (Between (k * (i / k)) i) f v
+
+abbrev pub Backwards : (ℕ → ℕ → Type 0) → ℕ → ℕ → (ℕ → ℕ) → ℕ → ℕ → Type 0
+Backwards R k n f i v = Extreme R (Between i (min (k * (i / k) + k - 1) (n - 1))) f v
+
+abbrev pub Reached : (ℕ → ℕ → Type 0) → ℕ → ℕ → (ℕ → ℕ) → ℕ → ℕ → Type 0
+Reached R k n f i v = Extreme R (Between (reachFrom k n i) (reachTo k n i)) f v
+
+-- joining: the backward extreme at low meets the forward one at high
+abbrev pub Joins : (ℕ → ℕ → ℕ) → ℕ → ℕ → (ℕ → ℕ) → (ℕ → ℕ) → ℕ → ℕ → Type 0
+Joins op k n suffix prefix i v = v ≡ op (suffix (low (radius k) i)) (prefix (high (radius k) n i))
+
+-- what a row of lanes asks: its stretches lie in the workspace, the one that is written apart from the others, and the tally has room
+pub record LanesReady (tally : Tally) (d : List ℕ) (a b to w : ℕ) : Type 0 where
+  pub left : a + w ≤ length d
+  pub right : b + w ≤ length d
+  pub target : to + w ≤ length d
+  pub left-apart : Apart a w to w
+  pub right-apart : Apart b w to w
+  pub room : tally .comparisons + w < 2 ^ 64
+
+-- a row of lanes met: each lane holds the extreme of its two samples, one comparison each
+pub record LanesMet (tally : Tally) (d : List ℕ) (a b to w : ℕ) (side : Bool) (raised : Tally) (d′ : List ℕ) : Type 0 where
+  pub row : Rowed to w (λ x. first side (getD d (a + x) 0) (getD d (b + x) 0)) d d′
+  pub counted : raised .comparisons ≡ tally .comparisons + w
+
+-- what a forward or backward pass asks
+pub record PassReady (tally : Tally) (d : List ℕ) (from to k w h : ℕ) : Type 0 where
+  pub source : from + w * h ≤ length d
+  pub target : to + w * h ≤ length d
+  pub apart : Apart from (w * h) to (w * h)
+  pub kernel : 0 < k
+  pub room : tally .comparisons + w * h < 2 ^ 64
+
+-- what a joining pass asks
+pub record JoinReady (tally : Tally) (d : List ℕ) (suffix prefix to k w h : ℕ) : Type 0 where
+  pub left : suffix + w * h ≤ length d
+  pub right : prefix + w * h ≤ length d
+  pub target : to + w * h ≤ length d
+  pub left-apart : Apart suffix (w * h) to (w * h)
+  pub right-apart : Apart prefix (w * h) to (w * h)
+  pub kernel : 0 < k
+  pub room : tally .comparisons + w * h < 2 ^ 64
+
+-- what a pass leaves: at each sample of the plane at `to` what P says, nothing else changed, and the tally raised by w for each line that the test passes
+pub record Passed (P : ℕ → ℕ → ℕ → Type 0) (test : ℕ → Bool) (tally : Tally) (d : List ℕ) (to w h : ℕ) (raised : Tally) (d′ : List ℕ) : Type 0 where
+  pub each : (x y : ℕ) → x < w → y < h → P x y (lane d′ to w x y)
+  pub rest : Outside to (w * h) d d′
+  pub counted : raised .comparisons ≡ tally .comparisons + walk test h * w
+
+-- the three passes
+abbrev pub ForwardPassed : Tally → List ℕ → ℕ → ℕ → ℕ → ℕ → ℕ → Bool → Tally → List ℕ → Type 0
+ForwardPassed tally d from to k w h side raised d′ = Passed (λ x. Forwards (Before side) k (lane d from w x)) (forwardAt k) tally d to w h raised d′
+
+abbrev pub BackwardPassed : Tally → List ℕ → ℕ → ℕ → ℕ → ℕ → ℕ → Bool → Tally → List ℕ → Type 0
+BackwardPassed tally d from to k w h side raised d′ = Passed (λ x. Backwards (Before side) k h (lane d from w x)) (backwardAt k h) tally d to w h raised d′
+
+abbrev pub JoinPassed : Tally → List ℕ → ℕ → ℕ → ℕ → ℕ → ℕ → ℕ → Bool → Tally → List ℕ → Type 0
+JoinPassed tally d suffix prefix to k w h side raised d′ = Passed (λ x. Joins (first side) k h (lane d suffix w x) (lane d prefix w x)) joinAt tally d to w h raised d′
+
+-- what a sweep of lanes side by side asks: the planes and 2wh of scratch in the workspace, the scratch apart from both planes, and room in the tally
+pub record LinesReady (tally : Tally) (d : List ℕ) (from to spare k w h : ℕ) : Type 0 where
+  pub source : from + w * h ≤ length d
+  pub target : to + w * h ≤ length d
+  pub scratch : spare + 2 * (w * h) ≤ length d
+  pub source-apart : Apart from (w * h) spare (2 * (w * h))
+  pub target-apart : Apart to (w * h) spare (2 * (w * h))
+  pub kernel : 0 < k
+  pub room : tally .comparisons + 3 * (w * h) < 2 ^ 64
+
+-- each of w lanes of h samples swept: at each sample the extreme of its reach, the walks of each lane counted, and nothing changed but the plane at `to` and the scratch
+pub record LinesSwept (tally : Tally) (d : List ℕ) (from to spare k w h : ℕ) (side : Bool) (raised : Tally) (d′ : List ℕ) : Type 0 where
+  pub each : (x y : ℕ) → x < w → y < h → Reached (Before side) k h (lane d from w x) y (lane d′ to w x y)
+  pub counted : raised .comparisons ≡ tally .comparisons + w * lineWalks k h
+  pub kept : Spared to (w * h) spare (2 * (w * h)) d d′
+
+-- what a sweep of rows or of columns asks: two planes, which are one or lie apart, and 3wh of scratch apart from both
+pub record SweepReady (tally : Tally) (d : List ℕ) (from to spare k w h : ℕ) : Type 0 where
+  pub source : from + w * h ≤ length d
+  pub target : to + w * h ≤ length d
+  pub scratch : spare + 3 * (w * h) ≤ length d
+  pub source-apart : Apart from (w * h) spare (3 * (w * h))
+  pub target-apart : Apart to (w * h) spare (3 * (w * h))
+  pub planes : (from ≡ to) ⊎ Apart from (w * h) to (w * h)
+  pub kernel : 0 < k
+  pub room : tally .comparisons + 3 * (w * h) < 2 ^ 64
+
+-- each of h rows of w swept
+pub record RowsSwept (tally : Tally) (d : List ℕ) (from to spare k w h : ℕ) (side : Bool) (raised : Tally) (d′ : List ℕ) : Type 0 where
+  pub each : (x y : ℕ) → x < w → y < h → Reached (Before side) k w (λ i. lane d from w i y) x (lane d′ to w x y)
+  pub counted : raised .comparisons ≡ tally .comparisons + h * lineWalks k w
+  pub kept : Spared to (w * h) spare (3 * (w * h)) d d′
+
+-- each of w columns of h swept
+pub record ColumnsSwept (tally : Tally) (d : List ℕ) (from to spare k w h : ℕ) (side : Bool) (raised : Tally) (d′ : List ℕ) : Type 0 where
+  pub each : (x y : ℕ) → x < w → y < h → Reached (Before side) k h (lane d from w x) y (lane d′ to w x y)
+  pub counted : raised .comparisons ≡ tally .comparisons + w * lineWalks k h
+  pub kept : Spared to (w * h) spare (3 * (w * h)) d d′
+
+-- what an erosion or a dilation asks: what its sweeps ask, and room in the tally for both
+pub record MorphReady (tally : Tally) (d : List ℕ) (from to spare kx ky w h : ℕ) : Type 0 where
+  pub rows : SweepReady tally d from to spare kx w h
+  pub columns : 0 < ky
+  pub wide : 0 < w
+  pub room : tally .comparisons + 6 * (w * h) < 2 ^ 64
+
+-- an erosion or a dilation of the packed plane at `from`, left at `to`
+pub record Morphed (tally : Tally) (d : List ℕ) (from to spare kx ky w h : ℕ) (side : Bool) (raised : Tally) (d′ : List ℕ) : Type 0 where
+  pub leaves : part to (w * h) d′ ≡ sweptRect (first side) kx ky w h (part from (w * h) d)
+  pub counted : raised .comparisons ≡ tally .comparisons + rectWalks kx ky w h
+  pub kept : Spared to (w * h) spare (3 * (w * h)) d d′
+
+-- what an opening or a closing asks
+pub record TwiceReady (tally : Tally) (d : List ℕ) (from to spare k w h : ℕ) : Type 0 where
+  pub rows : SweepReady tally d from to spare k w h
+  pub wide : 0 < w
+  pub room : tally .comparisons + 12 * (w * h) < 2 ^ 64
+
+-- an opening (`made` is `opened`) or a closing of the packed plane at `from`, left at `to`
+pub record TwiceMorphed (made : ℕ → ℕ → ℕ → List ℕ → List ℕ) (tally : Tally) (d : List ℕ) (from to spare k w h : ℕ) (raised : Tally) (d′ : List ℕ) : Type 0 where
+  pub leaves : part to (w * h) d′ ≡ made k w h (part from (w * h) d)
+  pub counted : raised .comparisons ≡ tally .comparisons + 2 * sweepWalks k w h
+  pub kept : Spared to (w * h) spare (3 * (w * h)) d d′
+
+-- a plane of `rows` rows of `columns` turned: its columns are the rows of the plane at `to`
+pub record TurnReady (d : List ℕ) (from to rows columns : ℕ) : Type 0 where
+  pub source : from + rows * columns ≤ length d
+  pub target : to + rows * columns ≤ length d
+  pub apart : Apart from (rows * columns) to (rows * columns)
+
+pub record Turned (d : List ℕ) (from to rows columns : ℕ) (d′ : List ℕ) : Type 0 where
+  pub each : (x y : ℕ) → x < columns → y < rows → lane d′ to rows y x ≡ lane d from columns x y
+  pub rest : Outside to (rows * columns) d d′

@@ -1,0 +1,217 @@
+// Erosion, dilation, opening and closing of grey pictures with an odd square kernel, from a strided source to a
+// strided destination.
+use crate::ImgProcError;
+use crate::rect::close_rect_into;
+use crate::rect::morph_rect_into;
+use crate::rect::open_rect_into;
+use crate::tally::Tally;
+use crate::tally::comparisons;
+use crate::tally::start;
+use image::Geometry;
+use image::Layout;
+ghost use Rattle.imgproc.specs.MorphologyCalls.{OperateReady, Operated, CountReady, Counts, RunReady, Runs, Applies};
+
+enum Operation {
+    Erode,
+    Dilate,
+    Open,
+    Close,
+}
+
+// The comparisons that a call made, or its refusal.
+pub enum Compared {
+    Comparisons(u64),
+    Refused(ImgProcError),
+}
+
+// An operation on the first plane of the workspace, left in the second.
+fn operate(
+    tally: Tally,
+    ws: &mut [u8],
+    kernel: usize,
+    width: usize,
+    height: usize,
+    operation: Operation,
+) -> Tally
+    requires { ⌜ OperateReady tally (now ws) kernel width height ⌝ }
+    ensures { λ r. ⌜ Operated operation tally (now (ws .entry)) kernel width height r (now (ws .exit)) ⌝ }
+{
+    let to = width * height;
+    let spare = 2 * to;
+    match operation {
+        Operation::Erode => {
+            morph_rect_into(tally, ws, 0, to, spare, kernel, kernel, width, height, true)
+        }
+        Operation::Dilate => {
+            morph_rect_into(
+                tally,
+                ws,
+                0,
+                to,
+                spare,
+                kernel,
+                kernel,
+                width,
+                height,
+                false,
+            )
+        }
+        Operation::Open => open_rect_into(tally, ws, 0, to, spare, kernel, width, height),
+        Operation::Close => close_rect_into(tally, ws, 0, to, spare, kernel, width, height),
+    }
+}
+
+// One tally, started at 0, through an operation, and read out.
+fn count(ws: &mut [u8], kernel: usize, width: usize, height: usize, operation: Operation) -> u64
+    requires { ⌜ CountReady (now ws) kernel width height ⌝ }
+    ensures { λ n. ⌜ Counts operation (now (ws .entry)) kernel width height n (now (ws .exit)) ⌝ }
+{
+    comparisons(operate(start(), ws, kernel, width, height, operation))
+}
+
+// The work of an accepted call: packed, operated on, painted.
+fn run(
+    src: &[u8],
+    src_geometry: Geometry,
+    dst: &mut [u8],
+    dst_geometry: Geometry,
+    kernel: usize,
+    operation: Operation,
+    workspace: &mut [u8],
+) -> u64
+    requires { ⌜ RunReady (now src) «src_geometry» (now dst) «dst_geometry» kernel (now workspace) ⌝ }
+    ensures { λ n. ⌜ Runs operation (now (src .entry)) «src_geometry» (now (dst .entry)) «dst_geometry» kernel (now (workspace .entry)) n (now (dst .exit)) (now (workspace .exit)) ⌝ }
+{
+    let width = src_geometry.width;
+    let height = src_geometry.height;
+    let _packed = image::pack(src, src_geometry, workspace, 0);
+    let n = count(workspace, kernel, width, height, operation);
+    let _painted = image::unpack(workspace, width * height, dst, dst_geometry);
+    n
+}
+
+// What each call refuses, in order, and then its work.
+fn apply_into(
+    src: &[u8],
+    src_geometry: Geometry,
+    dst: &mut [u8],
+    dst_geometry: Geometry,
+    kernel_size: usize,
+    operation: Operation,
+    workspace: &mut [u8],
+) -> Compared
+    ensures { λ r. ⌜ Applies operation (now (src .entry)) «src_geometry» (now (dst .entry)) «dst_geometry» «kernel_size» (now (workspace .entry)) r (now (dst .exit)) (now (workspace .exit)) ⌝ }
+{
+    let layout = image::validate_layout(src.len(), src_geometry);
+    let Layout::Valid(g) = layout else {
+        return Compared::Refused(ImgProcError::Image(image::refusal(layout)));
+    };
+    let target = image::validate_layout(dst.len(), dst_geometry);
+    let Layout::Valid(h) = target else {
+        return Compared::Refused(ImgProcError::Image(image::refusal(target)));
+    };
+    if g.width != h.width {
+        return Compared::Refused(ImgProcError::DimensionMismatch);
+    }
+    if g.height != h.height {
+        return Compared::Refused(ImgProcError::DimensionMismatch);
+    }
+    if kernel_size < 3 {
+        return Compared::Refused(ImgProcError::InvalidKernel);
+    }
+    if kernel_size % 2 == 0 {
+        return Compared::Refused(ImgProcError::InvalidKernel);
+    }
+    if workspace.len() < 6 * (g.width * g.height) {
+        return Compared::Refused(ImgProcError::WorkspaceTooSmall);
+    }
+    Compared::Comparisons(run(src, g, dst, h, kernel_size, operation, workspace))
+}
+
+// Erosion: the minimum over each reach.
+pub fn grayscale_erode_into(
+    src: &[u8],
+    src_geometry: Geometry,
+    dst: &mut [u8],
+    dst_geometry: Geometry,
+    kernel_size: usize,
+    workspace: &mut [u8],
+) -> Compared
+    ensures { λ r. ⌜ Applies Operation.Erode (now (src .entry)) «src_geometry» (now (dst .entry)) «dst_geometry» «kernel_size» (now (workspace .entry)) r (now (dst .exit)) (now (workspace .exit)) ⌝ }
+{
+    apply_into(
+        src,
+        src_geometry,
+        dst,
+        dst_geometry,
+        kernel_size,
+        Operation::Erode,
+        workspace,
+    )
+}
+
+// Dilation: the maximum over each reach.
+pub fn grayscale_dilate_into(
+    src: &[u8],
+    src_geometry: Geometry,
+    dst: &mut [u8],
+    dst_geometry: Geometry,
+    kernel_size: usize,
+    workspace: &mut [u8],
+) -> Compared
+    ensures { λ r. ⌜ Applies Operation.Dilate (now (src .entry)) «src_geometry» (now (dst .entry)) «dst_geometry» «kernel_size» (now (workspace .entry)) r (now (dst .exit)) (now (workspace .exit)) ⌝ }
+{
+    apply_into(
+        src,
+        src_geometry,
+        dst,
+        dst_geometry,
+        kernel_size,
+        Operation::Dilate,
+        workspace,
+    )
+}
+
+// Opening: erosion, then dilation.
+pub fn grayscale_open_into(
+    src: &[u8],
+    src_geometry: Geometry,
+    dst: &mut [u8],
+    dst_geometry: Geometry,
+    kernel_size: usize,
+    workspace: &mut [u8],
+) -> Compared
+    ensures { λ r. ⌜ Applies Operation.Open (now (src .entry)) «src_geometry» (now (dst .entry)) «dst_geometry» «kernel_size» (now (workspace .entry)) r (now (dst .exit)) (now (workspace .exit)) ⌝ }
+{
+    apply_into(
+        src,
+        src_geometry,
+        dst,
+        dst_geometry,
+        kernel_size,
+        Operation::Open,
+        workspace,
+    )
+}
+
+// Closing: dilation, then erosion.
+pub fn grayscale_close_into(
+    src: &[u8],
+    src_geometry: Geometry,
+    dst: &mut [u8],
+    dst_geometry: Geometry,
+    kernel_size: usize,
+    workspace: &mut [u8],
+) -> Compared
+    ensures { λ r. ⌜ Applies Operation.Close (now (src .entry)) «src_geometry» (now (dst .entry)) «dst_geometry» «kernel_size» (now (workspace .entry)) r (now (dst .exit)) (now (workspace .exit)) ⌝ }
+{
+    apply_into(
+        src,
+        src_geometry,
+        dst,
+        dst_geometry,
+        kernel_size,
+        Operation::Close,
+        workspace,
+    )
+}

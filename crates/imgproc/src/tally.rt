@@ -1,0 +1,60 @@
+// One tally of comparisons. Its number is private: only `lesser` and `greater` raise one, each by 1 with the extreme
+// that it gives, and only `start` makes one.
+ghost use mathlib.Core.Path.{_≡_};
+ghost use Prim.Native.Nat.{_+_, _<_, _^_, min, max};
+ghost use Rattle.imgproc.specs.Compared.{Compares};
+
+// How many times two samples were compared.
+pub struct Tally {
+    comparisons: u64,
+}
+
+// The extreme of two samples, and the tally with that comparison in it.
+pub struct Met {
+    pub tally: Tally,
+    pub value: u8,
+}
+
+// A tally of no comparisons.
+pub fn start() -> Tally
+    ensures { λ r. ⌜ r .comparisons ≡ 0 ⌝ }
+{
+    Tally { comparisons: 0 }
+}
+
+// The number of a tally.
+pub fn comparisons(tally: Tally) -> u64
+    ensures { λ r. ⌜ r ≡ tally .comparisons ⌝ }
+{
+    tally.comparisons
+}
+
+// The lesser of two samples, counted.
+pub(crate) fn lesser(tally: Tally, a: u8, b: u8) -> Met
+    requires { ⌜ tally .comparisons + 1 < 2 ^ 64 ⌝ }
+    ensures { λ r. ⌜ Compares (min a b) tally r ⌝ }
+{
+    let raised = tally.comparisons + 1;
+    let value = if a < b { a } else { b };
+    Met {
+        tally: Tally {
+            comparisons: raised,
+        },
+        value,
+    }
+}
+
+// The greater of two samples, counted.
+pub(crate) fn greater(tally: Tally, a: u8, b: u8) -> Met
+    requires { ⌜ tally .comparisons + 1 < 2 ^ 64 ⌝ }
+    ensures { λ r. ⌜ Compares (max a b) tally r ⌝ }
+{
+    let raised = tally.comparisons + 1;
+    let value = if a < b { b } else { a };
+    Met {
+        tally: Tally {
+            comparisons: raised,
+        },
+        value,
+    }
+}
