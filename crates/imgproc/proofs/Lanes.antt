@@ -1,21 +1,19 @@
 -- Rows of lanes written in a workspace, and passes that have come some lines down or up a plane. Assumes nothing.
 use mathlib.Core.Path.{_≡_, refl, sym, ap, _∙_, subst}
-use mathlib.Core.Bool.{Bool, true, false}
+use mathlib.Core.Bool.{Bool, true}
 use mathlib.Core.List.{List}
 use mathlib.Core.Logic.{_⊎_, inl, inr, ⊎-elim}
-use Prim.Native.Nat.{ℕ, _+_, _-_, _*_, _%_, _≤_, _<_}
+use Prim.Native.Nat.{ℕ, _+_, _-_, _*_, _≤_, _<_}
 use native.Mathlib.Nat.{not-suc-le-zero, mul-le-mul-right, add-mul}
 use native.Mathlib.Omega.{arith}
 use lib.ListN.{length, getD, set, length-set}
 use lib.Seq.{getD-set-same, getD-set-other}
-use borrow.Author.Tests.{eq-eqb, ne-eqb}
 use Rattle.imgproc.specs.Fold.{bit}
-use Rattle.imgproc.specs.Extremes.{Order}
-use Rattle.imgproc.specs.Reach.{walk, forwardAt, backwardAt, joinAt, low, high, radius}
+use Rattle.imgproc.specs.Reach.{walk}
 use Rattle.imgproc.specs.Walks.{cases, walk-more, walk-le}
 use Rattle.imgproc.specs.declared.tally.Tally.{Tally}
-use Rattle.imgproc.specs.Sweeps.{lane, Apart, Off, Outside, Rowed, Forwards, Backwards, Joins, Passed}
-use Rattle.imgproc.proofs.Blocks.{forward-first, forward-next, backward-first, backward-next, backward-none, after}
+use Rattle.imgproc.specs.Sweeps.{lane, Apart, Off, Outside, Rowed, Passed}
+use Rattle.imgproc.proofs.Blocks.{after}
 
 -- ---- places
 

@@ -7,15 +7,14 @@ use native.Mathlib.Omega.{arith}
 use lib.ListN.{length}
 use Rattle.image.specs.declared.Geometry.{Geometry}
 use Rattle.image.specs.declared.Copied.{Copied}
-use Rattle.image.specs.Plane.{packed, painted, part, overwritten}
-use Rattle.image.specs.PlaneLaws.{length-packed, length-overwritten, part-overwritten}
+use Rattle.image.specs.Plane.{packed, painted, part}
 use Rattle.image.specs.Copy.{Packs, Unpacks}
 use Rattle.imgproc.specs.declared.tally.Tally.{Tally}
 use Rattle.imgproc.specs.declared.morphology.Operation.{Operation}
 use Rattle.imgproc.specs.Sweeps.{MorphReady, TwiceReady}
 use Rattle.imgproc.specs.MorphologyCalls.{operated, OperateReady, CountReady, Counts, RunReady, Runs}
-use Rattle.imgproc.proofs.Layouts.{area-small}
-use Rattle.imgproc.proofs.Copies.{packs-done, unpacks-done}
+use Rattle.image.specs.LayoutLaws.{area-small}
+use Rattle.imgproc.proofs.Copies.{packs-plane, unpacks-done}
 
 -- ---- the planes of an operation: the first, the second, and the scratch after them
 pub once-ready : {t : Tally} {d : List ℕ} {k w h : ℕ} → OperateReady t d k w h → MorphReady t d 0 (w * h) (2 * (w * h)) k k w h
@@ -41,20 +40,14 @@ twice-ready p = record { rows = once-ready p .rows; wide = p .wide; room = p .ro
 -- ---- packed, operated on, painted
 module _ (operation : Operation) (src : List ℕ) (s : Geometry) (dst : List ℕ) (t : Geometry) (k : ℕ) (ws : List ℕ) (ready : RunReady src s dst t k ws)
     (r : Copied) (first : List ℕ) (pack : Packs src s 0 ws r first) where
-  fits : 0 + length (packed src (s .width) (s .height) (s .stride)) ≤ length ws
-  fits = omega (arith, ready .fits, length-packed src (s .width) (s .height) (s .stride))
-
-  is : first ≡ overwritten 0 (packed src (s .width) (s .height) (s .stride)) ws
-  is = packs-done (ready .from) (omega (arith, ready .fits)) pack
-
-  pub pack-long : length first ≡ length ws
-  pack-long = ap length is ∙ length-overwritten 0 (packed src (s .width) (s .height) (s .stride)) ws fits
+  plane : (length first ≡ length ws) × (part 0 (s .width * s .height) first ≡ packed src (s .width) (s .height) (s .stride))
+  plane = packs-plane (ready .from) (omega (arith, ready .fits)) pack
 
   pub run-count-ready : CountReady first k (s .width) (s .height)
   run-count-ready =
       let area = area-small (ready .from) in
       record {
-        fits = omega (arith, pack-long, ready .fits);
+        fits = omega (arith, plane .0, ready .fits);
         kernel = ready .kernel;
         wide = ready .from .wide;
         room = omega arith;
@@ -62,20 +55,15 @@ module _ (operation : Operation) (src : List ℕ) (s : Geometry) (dst : List ℕ
 
   module _ (n : ℕ) (second : List ℕ) (counts : Counts operation first k (s .width) (s .height) n second) (r′ : Copied) (dst′ : List ℕ)
       (unpack : Unpacks second (s .width * s .height) dst t r′ dst′) where
-    plane : part 0 (s .width * s .height) first ≡ packed src (s .width) (s .height) (s .stride)
-    plane =
-        ap₂ (λ (m : ℕ) (d : List ℕ). part 0 m d) (sym (length-packed src (s .width) (s .height) (s .stride))) is
-        ∙ part-overwritten 0 (packed src (s .width) (s .height) (s .stride)) ws fits
-
     pub run-runs : Runs operation src s dst t k ws n dst′ second
     run-runs =
-        let long = pack-long in
+        let long = plane .0 in
         let area : t .width * t .height ≡ s .width * s .height = ap₂ (λ (a b : ℕ). a * b) (sym (ready .wide)) (sym (ready .high)) in
         let left = unpacks-done (ready .to) (omega (arith, counts .long, ready .fits)) unpack in
         let p : dst′ ≡ painted (part (s .width * s .height) (s .width * s .height) second) (s .width) (s .height) (t .stride) dst =
         left ∙ rw (ready .wide, ready .high) in
         record {
-          leaves = p ∙ ap (λ (q : List ℕ). painted q (s .width) (s .height) (t .stride) dst) (counts .leaves ∙ ap (operated operation k (s .width) (s .height)) plane);
+          leaves = p ∙ ap (λ (q : List ℕ). painted q (s .width) (s .height) (t .stride) dst) (counts .leaves ∙ ap (operated operation k (s .width) (s .height)) (plane .1));
           counted = counts .counted;
           long = counts .long ∙ long;
         }

@@ -1,9 +1,9 @@
 -- The lines of a forward, a backward and a joining pass, and the three passes together: one law over the order. Assumes nothing.
-use mathlib.Core.Path.{_≡_, refl, sym, ap, ap₂, _∙_, subst}
-use mathlib.Core.Bool.{Bool, true}
+use mathlib.Core.Path.{_≡_, refl, ap, ap₂, _∙_}
+use mathlib.Core.Bool.{Bool}
 use mathlib.Core.List.{List}
 use mathlib.Core.Logic.{_⊎_, inl, inr, ⊎-elim}
-use Prim.Native.Nat.{ℕ, _+_, _-_, _*_, _/_, _%_, _≤_, _<_, min}
+use Prim.Native.Nat.{ℕ, _+_, _-_, _*_, _%_, _≤_, _<_}
 use native.Mathlib.Nat.{mul-le-mul-right}
 use native.Mathlib.Omega.{arith}
 use lib.ListN.{getD}
@@ -12,7 +12,7 @@ use Rattle.imgproc.specs.Extremes.{Order}
 use Rattle.imgproc.specs.Reach.{walk, forwardAt, backwardAt, joinAt, low, high, radius}
 use Rattle.imgproc.specs.Walks.{walk-le}
 use Rattle.imgproc.specs.declared.tally.Tally.{Tally}
-use Rattle.imgproc.specs.Sweeps.{lane, Apart, Off, Outside, Rowed, Forwards, Backwards, Joins, Passed, ForwardPassed, BackwardPassed, JoinPassed, LinesSwept}
+use Rattle.imgproc.specs.Sweeps.{lane, Apart, Outside, Rowed, Forwards, Backwards, Joins, ForwardPassed, BackwardPassed, JoinPassed, LinesSwept}
 use Rattle.imgproc.proofs.Blocks.{forward-first, forward-next, backward-first, backward-next, backward-none, after, reached, seen, order}
 use Rattle.imgproc.proofs.Lanes.{off, apart-within, outside-at, line-order, line-before, Downward, down-more, Upward, up-more}
 
@@ -115,5 +115,5 @@ lines-swept side k from to spare w h t a b r d e f g pos apart forth back joined
 }
 
 -- a pass raises the tally by no more than the plane has samples
-pub passed-room : {P : ℕ → ℕ → ℕ → Type 0} {test : ℕ → Bool} {t r : Tally} {d d′ : List ℕ} {to w h : ℕ} → Passed P test t d to w h r d′ → r .comparisons ≤ t .comparisons + w * h
-passed-room {test} {w} {h} p = let b : walk test h * w ≤ h * w = mul-le-mul-right w (walk-le test h) in omega (arith, p .counted)
+pub passed-room : (c c′ : ℕ) (test : ℕ → Bool) (w h : ℕ) → c′ ≡ c + walk test h * w → c′ ≤ c + w * h
+passed-room c c′ test w h e = let b : walk test h * w ≤ h * w = mul-le-mul-right w (walk-le test h) in omega arith

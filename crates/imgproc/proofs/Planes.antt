@@ -1,22 +1,22 @@
 -- Rows swept strip by strip, and a sweep of the rows and then of the columns as the packed picture that it leaves. Assumes nothing.
 use mathlib.Core.Path.{_≡_, refl, sym, ap, _∙_, subst}
-use mathlib.Core.Bool.{Bool, true, false}
+use mathlib.Core.Bool.{Bool}
 use mathlib.Core.List.{List}
 use mathlib.Core.Logic.{_⊎_, inl, inr, ⊎-elim}
 use Prim.Native.Nat.{ℕ, _+_, _-_, _*_, _≤_, _<_}
 use native.Mathlib.Nat.{mul-le-mul-left, mul-le-mul-right, add-mul}
 use native.Mathlib.Omega.{arith}
 use lib.ListN.{length, getD}
-use Rattle.image.specs.Plane.{part, pixel}
+use Rattle.image.specs.Plane.{part}
 use Rattle.image.specs.PlaneLaws.{in-plane, length-part, getD-part}
 use Rattle.imgproc.specs.declared.tally.Tally.{Tally}
 use Rattle.imgproc.specs.Extremes.{Extreme, Between, Inside}
-use Rattle.imgproc.specs.Reach.{reachBox, reachFrom, reachTo, lineWalks, rectWalks, sweepWalks}
+use Rattle.imgproc.specs.Reach.{reachBox, reachFrom, reachTo, lineWalks}
 use Rattle.imgproc.specs.Walks.{cases, line-walks-le}
 use Rattle.imgproc.specs.Compared.{Before, first}
 use Rattle.imgproc.specs.Morphology.{sweptRect, swept}
 use Rattle.imgproc.specs.MorphologyLaws.{reach-in, is-swept}
-use Rattle.imgproc.specs.Sweeps.{lane, Apart, Off, Spared, Reached, LinesSwept, Turned, SweepReady, RowsSwept, ColumnsSwept, MorphReady, Morphed, TwiceReady, TwiceMorphed}
+use Rattle.imgproc.specs.Sweeps.{lane, Off, Spared, Reached, LinesSwept, Turned, SweepReady, RowsSwept, ColumnsSwept, MorphReady, Morphed, TwiceReady, TwiceMorphed}
 use Rattle.imgproc.proofs.Blocks.{order, seen}
 use Rattle.imgproc.proofs.Lanes.{off, apart-within, outside-at, line-order}
 

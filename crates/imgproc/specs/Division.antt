@@ -1,8 +1,18 @@
--- Document 01, part 3: division by the background. Definitions only.
-use Prim.Native.Nat.{ℕ, _*_, _/_, min, max}
+-- Document 01, part 3: division by the background, and the contract of `background_divide_into`. Definitions only.
+use Prim.Native.Nat.{ℕ, _+_, _*_, _/_, _^_, _≤_, _<_, min, max}
+use mathlib.Core.Path.{_≡_}
 use mathlib.Core.List.{List}
-use Rattle.image.specs.Plane.{plane, pixel}
+use lib.ListN.{length}
+use Rattle.image.specs.declared.Geometry.{Geometry}
+use Rattle.image.specs.Layout.{Kept}
+use Rattle.image.specs.Plane.{plane, pixel, packed, painted, part}
 use Rattle.imgproc.specs.declared.illumination.BackgroundDivideConfig.{BackgroundDivideConfig}
+use Rattle.imgproc.specs.declared.morphology.Compared.{Compared}
+use Rattle.imgproc.specs.declared.tally.Tally.{Tally}
+use Rattle.imgproc.specs.Reach.{sweepWalks}
+use Rattle.imgproc.specs.Morphology.{sweptRect, closed}
+use Rattle.imgproc.specs.MorphologyCalls.{compared}
+use Rattle.imgproc.specs.Refusals.{divisionCheck, leftBy, Lent}
 
 -- the Rust's defaults
 abbrev pub divisionDefaults : BackgroundDivideConfig
@@ -16,3 +26,47 @@ quotient d source closing = min 255 (source * d .«target_luma» / max closing (
 unfoldable pub dividedBy : BackgroundDivideConfig → ℕ → ℕ → List ℕ → List ℕ → List ℕ
 unfolding plane quotient
 dividedBy d w h p c = plane w h (λ x y. quotient d (pixel p w x y) (pixel c w x y))
+
+-- flattened: each pixel divided by the closing with the element
+unfoldable pub divided : BackgroundDivideConfig → ℕ → ℕ → List ℕ → List ℕ
+unfolding dividedBy sweptRect
+divided d w h p = dividedBy d w h p (closed (d .«structuring_element») w h p)
+
+-- the contract of `background_divide_into`: its answer, the destination's bytes, and the workspace
+pub record Divides (src : List ℕ) (source : Geometry) (dst : List ℕ) (target : Geometry) (d : BackgroundDivideConfig) (ws : List ℕ) (answer : Compared) (dst′ ws′ : List ℕ) : Type 0 where
+  pub answers : answer ≡ compared (divisionCheck (length src) source (length dst) target d (length ws)) (2 * sweepWalks (d .«structuring_element») (source .width) (source .height))
+  pub leaves : dst′
+      ≡ leftBy (divisionCheck (length src) source (length dst) target d (length ws))
+      (painted (divided d (source .width) (source .height) (packed src (source .width) (source .height) (source .stride))) (source .width) (source .height) (target .stride) dst)
+      dst
+  pub workspace : Lent (divisionCheck (length src) source (length dst) target d (length ws)) ws ws′
+
+-- ---- inside: what the parts of an accepted call ask and leave
+
+-- a picture that is packed into the first plane of the workspace, closed and divided in the second
+pub record FlattenReady (tally : Tally) (src : List ℕ) (g : Geometry) (d : BackgroundDivideConfig) (ws : List ℕ) : Type 0 where
+  pub from : Kept (length src) g
+  pub kernel : 0 < d .«structuring_element»
+  pub floor : 0 < d .«denominator_floor»
+  pub fits : 6 * (g .width * g .height) ≤ length ws
+  pub room : tally .comparisons + 12 * (g .width * g .height) < 2 ^ 64
+
+pub record Flattened (tally : Tally) (src : List ℕ) (g : Geometry) (d : BackgroundDivideConfig) (ws : List ℕ) (raised : Tally) (ws′ : List ℕ) : Type 0 where
+  pub leaves : part (g .width * g .height) (g .width * g .height) ws′ ≡ divided d (g .width) (g .height) (packed src (g .width) (g .height) (g .stride))
+  pub counted : raised .comparisons ≡ tally .comparisons + 2 * sweepWalks (d .«structuring_element») (g .width) (g .height)
+  pub long : length ws′ ≡ length ws
+
+-- the work of an accepted call
+pub record DivideReady (src : List ℕ) (source : Geometry) (dst : List ℕ) (target : Geometry) (d : BackgroundDivideConfig) (ws : List ℕ) : Type 0 where
+  pub from : Kept (length src) source
+  pub to : Kept (length dst) target
+  pub wide : source .width ≡ target .width
+  pub high : source .height ≡ target .height
+  pub kernel : 0 < d .«structuring_element»
+  pub floor : 0 < d .«denominator_floor»
+  pub fits : 6 * (source .width * source .height) ≤ length ws
+
+pub record Divided (src : List ℕ) (source : Geometry) (dst : List ℕ) (target : Geometry) (d : BackgroundDivideConfig) (ws : List ℕ) (n : ℕ) (dst′ ws′ : List ℕ) : Type 0 where
+  pub leaves : dst′ ≡ painted (divided d (source .width) (source .height) (packed src (source .width) (source .height) (source .stride))) (source .width) (source .height) (target .stride) dst
+  pub counted : n ≡ 2 * sweepWalks (d .«structuring_element») (source .width) (source .height)
+  pub long : length ws′ ≡ length ws

@@ -1,7 +1,7 @@
 -- A fold is THE extreme of its range, under either order: one law over the order serves minima and maxima. Assumes nothing.
-use mathlib.Core.Path.{_≡_, refl, sym, ap, _∙_, subst}
+use mathlib.Core.Path.{_≡_, refl, sym, _∙_, subst}
 use mathlib.Core.Logic.{_⊎_, inl, inr, ⊎-elim}
-use Prim.Native.Nat.{ℕ, zero, suc, _+_, _-_, _≤_, _<_, min, max}
+use Prim.Native.Nat.{ℕ, zero, suc, _+_, _-_, _≤_, min, max}
 use native.Mathlib.Nat.{le-refl, le-trans, le-antisymm, eq-or-lt-of-le, min-le-left, min-le-right, le-max-left, le-max-right}
 use native.Mathlib.Omega.{arith}
 use Rattle.imgproc.specs.Fold.{foldFrom, foldOver, Box, foldBox}

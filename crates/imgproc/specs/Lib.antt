@@ -10,4 +10,12 @@ pub mod Sweeps
 pub mod MorphologyCalls
 pub mod MorphologyLaws
 pub mod Division
+pub mod Sums
+pub mod SumLaws
+pub mod WholeRoot
+pub mod Sauvola
+pub mod SauvolaLaws
+pub mod Tables
+pub mod Cases
+pub mod PicturesSauvola
 pub mod Pictures

@@ -1,33 +1,19 @@
 -- The starred pictures of document 01, and a few of our own for columns, both axes and borders, as one table that antt evaluates. Assumes nothing.
 use mathlib.Core.Path.{_≡_, refl}
-use mathlib.Core.Bool.{Bool, true, false, cond, _&&_}
-use mathlib.Core.List.{List, [], _∷_}
-use Prim.Native.Nat.{ℕ, suc, min, _*_}
-use lib.Dec.{eqb}
+use mathlib.Core.List.{List, [], _∷_, _++_}
+use Prim.Native.Nat.{ℕ, min, _*_}
 use Rattle.imgproc.specs.Reach.{walk, sweepWalks, R}
+use Rattle.image.specs.Plane.{packed, painted}
+use Rattle.imgproc.specs.declared.illumination.BackgroundDivideConfig.{BackgroundDivideConfig}
+use Rattle.imgproc.specs.Cases.{Case, _gives_, wrong}
+use Rattle.imgproc.specs.Division.{divided}
+use Rattle.imgproc.specs.Sauvola.{thresholdAt, binarised}
+use Rattle.imgproc.specs.PicturesSauvola.{sauvolaPictures}
 use Rattle.imgproc.specs.Morphology.{sweptRect, eroded, dilated, opened, closed}
 
-infix 10 _gives_
--- a worked picture: what is computed, and the answer that is stated
-pub data Case : Type 0 where
-  _gives_ : List ℕ → List ℕ → Case
-
-abbrev pub same : List ℕ → List ℕ → Bool
-same [] [] = true
-same [] (y ∷ ys) = false
-same (x ∷ xs) [] = false
-same (x ∷ xs) (y ∷ ys) = eqb x y && same xs ys
-
-abbrev pub right : Case → Bool
-right (computed gives stated) = same computed stated
-
--- the places of the wrong cases, counted from n
-abbrev pub wrong : ℕ → List Case → List ℕ
-wrong n [] = []
-wrong n (c ∷ cs) = cond (right c) (wrong (suc n) cs) (n ∷ wrong (suc n) cs)
-
-unfoldable pub pictures : List Case
-pictures =
+-- ★ part 2, with pictures of our own for columns, both axes and borders
+unfoldable pub morphologyPictures : List Case
+morphologyPictures =
     -- ★ part 2: a plain clipped window starts with 5; the comparisons by walks and by R
     (eroded 3 4 1 (5 ∷ 6 ∷ 1 ∷ 9 ∷ []) gives 1 ∷ 1 ∷ 1 ∷ 1 ∷ []) ∷
     (sweepWalks 3 4 1 ∷ R 3 4 1 ∷ [] gives 12 ∷ 12 ∷ []) ∷
@@ -45,6 +31,17 @@ pictures =
     (sweptRect min 3 5 4 2 (9 ∷ 9 ∷ 9 ∷ 2 ∷ 9 ∷ 9 ∷ 9 ∷ 9 ∷ []) gives 9 ∷ 9 ∷ 2 ∷ 2 ∷ 9 ∷ 9 ∷ 2 ∷ 2 ∷ []) ∷
     []
 
-pub pictures-hold : wrong 1 pictures ≡ []
-unfolding pictures sweptRect walk R
+abbrev pub division : ℕ → BackgroundDivideConfig
+division element = record { «structuring_element» = element; «target_luma» = 200; «denominator_floor» = 8 }
+
+-- ★ part 3, with one of our own in two dimensions
+unfoldable pub divisionPictures : List Case
+divisionPictures =
+    (divided (division 3) 4 1 (255 ∷ 0 ∷ 0 ∷ 0 ∷ []) gives 255 ∷ 0 ∷ 0 ∷ 0 ∷ []) ∷
+    (divided (division 3) 1 1 (3 ∷ []) gives 75 ∷ []) ∷
+    (divided (division 3) 1 1 (8 ∷ []) gives 200 ∷ []) ∷
+    []
+
+pub pictures-hold : wrong 1 (morphologyPictures ++ (divisionPictures ++ sauvolaPictures)) ≡ []
+unfolding morphologyPictures divisionPictures sauvolaPictures sweptRect walk R divided thresholdAt binarised packed painted
 pictures-hold = refl

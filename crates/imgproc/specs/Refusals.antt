@@ -1,5 +1,5 @@
 -- What is turned back, and with which number: the first condition that fits counts. Definitions only.
-use Prim.Native.Nat.{ℕ, _*_, _%_}
+use Prim.Native.Nat.{ℕ, _+_, _*_, _%_}
 use mathlib.Core.Path.{_≡_}
 use mathlib.Core.Bool.{Bool, cond, not, _&&_, _||_}
 use mathlib.Core.List.{List}
@@ -9,6 +9,8 @@ use Rattle.image.specs.declared.Geometry.{Geometry}
 use Rattle.image.specs.declared.Layout.{Layout}
 use Rattle.image.specs.declared.Layout.the-variants.{Valid, Invalid}
 use Rattle.image.specs.Layout.{layoutOf, numberOf}
+use Rattle.imgproc.specs.declared.illumination.BackgroundDivideConfig.{BackgroundDivideConfig}
+use Rattle.imgproc.specs.declared.threshold.SauvolaConfig.{SauvolaConfig}
 use Rattle.imgproc.specs.declared.ImgProcError.{ImgProcError}
 use Rattle.imgproc.specs.declared.ImgProcError.the-variants.{Image, DimensionMismatch, InvalidKernel, InvalidConfiguration, WorkspaceTooSmall, GridBufferTooSmall}
 use Rattle.imgproc.specs.declared.Check.{Check}
@@ -65,3 +67,34 @@ morphologyCheck srcLen src dstLen dst kernel room =
     pairCheck srcLen src dstLen dst then
     refusedIf (badKernel kernel) InvalidKernel then
     refusedIf (ltb room (6 * (src .width * src .height))) WorkspaceTooSmall
+
+-- division settings: the element under 3 or even, or denominator_floor 0, is 7
+abbrev pub divisionSettings : BackgroundDivideConfig → Check
+divisionSettings d = refusedIf (badKernel (d .«structuring_element») || eqb (d .«denominator_floor») 0) InvalidConfiguration
+
+-- Division: the layouts; 5; the settings; the byte workspace under 7wh
+abbrev pub divisionCheck : ℕ → Geometry → ℕ → Geometry → BackgroundDivideConfig → ℕ → Check
+divisionCheck srcLen src dstLen dst d room =
+    pairCheck srcLen src dstLen dst then
+    divisionSettings d then
+    refusedIf (ltb room (7 * (src .width * src .height))) WorkspaceTooSmall
+
+-- Sauvola: radius 0, k_milli above 1,000 or dynamic_range 0 is 7
+abbrev pub sauvolaSettings : SauvolaConfig → Check
+sauvolaSettings config = refusedIf (eqb (config .radius) 0 || (ltb 1000 (config .«k_milli») || eqb (config .«dynamic_range») 0)) InvalidConfiguration
+
+-- the entries of the two tables of a picture of w by h: 2(w + 1)(h + 1)
+abbrev pub tableEntries : ℕ → ℕ → ℕ
+tableEntries w h = 2 * ((w + 1) * (h + 1))
+
+-- the settings, then a u64 workspace under 2(w + 1)(h + 1) is 8
+abbrev pub settingsAndRoom : SauvolaConfig → Geometry → ℕ → Check
+settingsAndRoom config g room =
+    sauvolaSettings config then
+    refusedIf (ltb room (tableEntries (g .width) (g .height))) WorkspaceTooSmall
+
+-- Sauvola: layouts; 5; settings 7; workspace 8
+abbrev pub sauvolaCheck : ℕ → Geometry → ℕ → Geometry → SauvolaConfig → ℕ → Check
+sauvolaCheck srcLen src dstLen dst config room =
+    pairCheck srcLen src dstLen dst then
+    settingsAndRoom config src room

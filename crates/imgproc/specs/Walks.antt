@@ -1,6 +1,6 @@
 -- The three walks of a line of n samples sum to 3n - 2⌈n/k⌉. Assumes nothing.
 use mathlib.Core.Path.{_≡_, refl, sym, ap, _∙_}
-use mathlib.Core.Bool.{Bool, true, false, not, _&&_}
+use mathlib.Core.Bool.{Bool, true, false, not}
 use mathlib.Core.Logic.{_⊎_, inl, inr, ⊎-elim}
 use Prim.Native.Nat.{ℕ, zero, suc, _+_, _-_, _*_, _/_, _%_, _≤_, _<_}
 use native.Mathlib.Nat.{zero-mod, eq-or-lt-of-le, div-add-mod, mod-lt, div-eq-of-lt-le, le-div-iff-mul-le, mul-le-mul-left}

@@ -1,11 +1,20 @@
 // Division by the background: a picture divided by its own closing, which takes a smooth shade away.
+use crate::Check;
+use crate::ImgProcError;
+use crate::morphology::Compared;
+use crate::rect::close_rect_into;
+use crate::tally::Tally;
+use crate::tally::comparisons;
+use crate::tally::start;
 use image::Geometry;
+use image::Layout;
 ghost use mathlib.Core.Path.{_≡_};
 ghost use Prim.Native.Nat.{ℕ, _+_, _*_, _≤_, _<_};
 ghost use lib.ListN.{length, getD};
 ghost use Rattle.image.specs.Layout.{Kept};
 ghost use Rattle.image.specs.Plane.{part, packed, overwritten, tabulate};
-ghost use Rattle.imgproc.specs.Division.{divisionDefaults, quotient, dividedBy};
+ghost use Rattle.imgproc.specs.Refusals.{divisionSettings};
+ghost use Rattle.imgproc.specs.Division.{divisionDefaults, quotient, dividedBy, FlattenReady, Flattened, DivideReady, Divided, Divides};
 
 pub struct BackgroundDivideConfig {
     pub structuring_element: usize,
@@ -77,4 +86,95 @@ pub(crate) fn divide_plane(
         );
         y += 1;
     }
+}
+
+// The picture packed into the first plane of the workspace, and closed and divided in the second.
+pub(crate) fn flatten(
+    tally: Tally,
+    src: &[u8],
+    geometry: Geometry,
+    config: BackgroundDivideConfig,
+    workspace: &mut [u8],
+) -> Tally
+    requires { ⌜ FlattenReady tally (now src) geometry config (now workspace) ⌝ }
+    ensures { λ r. ⌜ Flattened tally (now (src .entry)) geometry config (now (workspace .entry)) r (now (workspace .exit)) ⌝ }
+{
+    let width = geometry.width;
+    let height = geometry.height;
+    let plane = width * height;
+    let spare = 2 * plane;
+    let element = config.structuring_element;
+    let _packed = image::pack(src, geometry, workspace, 0);
+    let raised = close_rect_into(tally, workspace, 0, plane, spare, element, width, height);
+    divide_plane(src, geometry, config, workspace, plane);
+    raised
+}
+
+// The work of an accepted call: one tally, started at 0, through the closing, and read out.
+fn divide_picture(
+    src: &[u8],
+    src_geometry: Geometry,
+    dst: &mut [u8],
+    dst_geometry: Geometry,
+    config: BackgroundDivideConfig,
+    workspace: &mut [u8],
+) -> u64
+    requires { ⌜ DivideReady (now src) «src_geometry» (now dst) «dst_geometry» config (now workspace) ⌝ }
+    ensures { λ n. ⌜ Divided (now (src .entry)) «src_geometry» (now (dst .entry)) «dst_geometry» config (now (workspace .entry)) n (now (dst .exit)) (now (workspace .exit)) ⌝ }
+{
+    let plane = src_geometry.width * src_geometry.height;
+    let tally = flatten(start(), src, src_geometry, config, workspace);
+    let _painted = image::unpack(workspace, plane, dst, dst_geometry);
+    comparisons(tally)
+}
+
+// Whether the settings are in range: a bad element is 7 here, and not a bad kernel.
+pub(crate) fn check_settings(config: BackgroundDivideConfig) -> Check
+    ensures { λ r. ⌜ r ≡ divisionSettings config ⌝ }
+{
+    if config.structuring_element < 3 {
+        return Check::Refused(ImgProcError::InvalidConfiguration);
+    }
+    if config.structuring_element % 2 == 0 {
+        return Check::Refused(ImgProcError::InvalidConfiguration);
+    }
+    if config.denominator_floor == 0 {
+        return Check::Refused(ImgProcError::InvalidConfiguration);
+    }
+    Check::Accepted
+}
+
+// Divides a picture by its closing into the rows of the destination.
+pub fn background_divide_into(
+    src: &[u8],
+    src_geometry: Geometry,
+    dst: &mut [u8],
+    dst_geometry: Geometry,
+    config: BackgroundDivideConfig,
+    workspace: &mut [u8],
+) -> Compared
+    ensures { λ r. ⌜ Divides (now (src .entry)) «src_geometry» (now (dst .entry)) «dst_geometry» config (now (workspace .entry)) r (now (dst .exit)) (now (workspace .exit)) ⌝ }
+{
+    let layout = image::validate_layout(src.len(), src_geometry);
+    let Layout::Valid(g) = layout else {
+        return Compared::Refused(ImgProcError::Image(image::refusal(layout)));
+    };
+    let target = image::validate_layout(dst.len(), dst_geometry);
+    let Layout::Valid(h) = target else {
+        return Compared::Refused(ImgProcError::Image(image::refusal(target)));
+    };
+    if g.width != h.width {
+        return Compared::Refused(ImgProcError::DimensionMismatch);
+    }
+    if g.height != h.height {
+        return Compared::Refused(ImgProcError::DimensionMismatch);
+    }
+    let settings = check_settings(config);
+    if let Check::Refused(error) = settings {
+        return Compared::Refused(error);
+    }
+    if workspace.len() < 7 * (g.width * g.height) {
+        return Compared::Refused(ImgProcError::WorkspaceTooSmall);
+    }
+    Compared::Comparisons(divide_picture(src, g, dst, h, config, workspace))
 }

@@ -3,8 +3,9 @@ pub mod illumination;
 pub mod morphology;
 mod rect;
 mod sweeps;
+mod tables;
 mod tally;
-
+pub mod threshold;
 
 use image::Layout;
 use image::LumaError;

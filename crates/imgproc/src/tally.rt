@@ -49,11 +49,11 @@ pub(crate) fn greater(tally: Tally, a: u8, b: u8) -> Met
     requires { ⌜ tally .comparisons + 1 < 2 ^ 64 ⌝ }
     ensures { λ r. ⌜ Compares (max a b) tally r ⌝ }
 {
-    let raised = tally.comparisons + 1;
+    let counted = tally.comparisons + 1;
     let value = if a < b { b } else { a };
     Met {
         tally: Tally {
-            comparisons: raised,
+            comparisons: counted,
         },
         value,
     }

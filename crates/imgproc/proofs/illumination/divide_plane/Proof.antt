@@ -73,7 +73,7 @@ divide-row-requires c κs =
     let to = a .at + i .before .loop .y * a .geometry .width in (
       s .pre .0,
       row-long (now (a .src)) (a .geometry) (s .pre .1 .0) (i .before .loop .y) (i .loop-test .taken) (now (c .before .row .result)) (c .before .row .ensures)
-      ∙ sym (lent-row to (a .geometry .width) (i .before .loop .workspace) (fits i .0)),
+          ∙ sym (lent-row to (a .geometry .width) (i .before .loop .workspace) (fits i .0)),
     )
 
 add-y : tie.Need-add-y Inv-loop μ-loop
@@ -84,8 +84,8 @@ loop-less c = let i = c .before .before .before .before .before in omega (arith,
 
 -- what `divide_row` left in row y is what belongs there
 module _ (config : BackgroundDivideConfig) (g : Geometry) (at : ℕ) (src d : List ℕ) (k : Kept (length src) g) (room : at + g .width * g .height ≤ length d)
-  {l : List ℕ} (y : ℕ) (t : y < g .height) (o : Filled (g .width) (g .height) (value config g at src d) at d l y)
-  (row : List ℕ) (own : row ≡ rowIn (rowLayout (length src) g y) src y) where
+    {l : List ℕ} (y : ℕ) (t : y < g .height) (o : Filled (g .width) (g .height) (value config g at src d) at d l y)
+    (row : List ℕ) (own : row ≡ rowIn (rowLayout (length src) g y) src y) where
   back : List ℕ
   back = part (at + y * g .width) (at + y * g .width + g .width - (at + y * g .width)) l
 
@@ -110,9 +110,9 @@ module _ (config : BackgroundDivideConfig) (g : Geometry) (at : ℕ) (src d : Li
       let f : ℕ → ℕ = λ i. quotient config (getD row i 0) (getD back i 0) in (
         ap length e ∙ length-tabulate f (length back) ∙ size,
         λ x u.
-        ap (λ (z : List ℕ). getD z x 0) e
-        ∙ getD-tabulate f (length back) x (omega (arith, size))
-        ∙ ap₂ (quotient config) (row-pixel src g k y t row own x u) (back-at x u),
+            ap (λ (z : List ℕ). getD z x 0) e
+            ∙ getD-tabulate f (length back) x (omega (arith, size))
+            ∙ ap₂ (quotient config) (row-pixel src g k y t row own x u) (back-at x u),
       )
 
 loop-again : tie.Need-loop-again Inv-loop μ-loop

@@ -6,7 +6,9 @@ use mathlib.Core.Path.{_∙_}
 use Prim.Native.Nat.{_*_, _<_, _≤_}
 use mathlib.Core.Path.{subst}
 use Rattle.image.specs.declared.Geometry.{Geometry}
-use Rattle.imgproc.proofs.Layouts.{taken-same, taken-out, area-small, pair-source, pair-target, pair-wide, pair-high, pair-same}
+use Rattle.imgproc.proofs.Layouts.{taken-same, pair-source, pair-target, pair-wide, pair-high, pair-same}
+use Rattle.imgproc.proofs.CheckLaws.{kept-here}
+use Rattle.image.specs.LayoutLaws.{area-small}
 use Rattle.imgproc.proofs.MorphologyWays.{kernel-small, kernel-even, kernel-good, room-short, room-enough, refused, applied}
 use borrow.Author.Needs.{needs}
 use Rattle.imgproc.proofs.morphology.apply_into.Statement.{statement}
@@ -103,14 +105,14 @@ mul-if5 c =
     let told2 = c .before .before .before .before .before .before .before .before .before in
     let told1 = told2 .before .before .before .before in
     let v1 = told1 .before .before .before in
-    omega (arith, area-small (taken-out _ _ (v1 .validate-layout .ensures) (told1 .before .layout .given .1)))
+    omega (arith, area-small (kept-here _ _ (v1 .validate-layout .ensures) (told1 .before .layout .given .1)))
 
 mul-if5-2 : tie.Need-mul-if5-2
 mul-if5-2 c =
     let told2 = c .before .before .before .before .before .before .before .before .before in
     let told1 = told2 .before .before .before .before in
     let v1 = told1 .before .before .before in
-    omega (arith, area-small (taken-out _ _ (v1 .validate-layout .ensures) (told1 .before .layout .given .1)))
+    omega (arith, area-small (kept-here _ _ (v1 .validate-layout .ensures) (told1 .before .layout .given .1)))
 
 returns-7 : tie.Need-returns-7
 returns-7 c =
@@ -139,8 +141,8 @@ run-requires c κs =
     let v1 = told1 .before .before .before in
     let a = v1 .before .before .before .before .args in
     record {
-      from = taken-out _ _ (v1 .validate-layout .ensures) (told1 .before .layout .given .1);
-      to = taken-out _ _ (v2 .validate-layout2 .ensures) (told2 .before .target .given .1);
+      from = kept-here _ _ (v1 .validate-layout .ensures) (told1 .before .layout .given .1);
+      to = kept-here _ _ (v2 .validate-layout2 .ensures) (told2 .before .target .given .1);
       wide = else1 .if1 .left;
       high = else2 .if2 .left;
       kernel = omega (arith, else3 .if3 .left);

@@ -1,7 +1,6 @@
 -- `close_rect_into` meets its contract: a dilation, then an erosion. Assumes nothing.
 use mathlib.Core.Bool.{true, false}
 use native.Mathlib.Omega.{arith}
-use Rattle.imgproc.specs.Sweeps.{MorphReady}
 use Rattle.imgproc.proofs.Planes.{again-ready, twice-morphed}
 use Rattle.imgproc.proofs.rect.close_rect_into.Statement.{statement}
 use Rattle.imgproc.proofs.rect.close_rect_into.Tie as tie

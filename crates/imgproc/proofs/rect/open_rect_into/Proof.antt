@@ -1,7 +1,6 @@
 -- `open_rect_into` meets its contract: an erosion, then a dilation. Assumes nothing.
 use mathlib.Core.Bool.{true, false}
 use native.Mathlib.Omega.{arith}
-use Rattle.imgproc.specs.Sweeps.{MorphReady}
 use Rattle.imgproc.proofs.Planes.{again-ready, twice-morphed}
 use Rattle.imgproc.proofs.rect.open_rect_into.Statement.{statement}
 use Rattle.imgproc.proofs.rect.open_rect_into.Tie as tie

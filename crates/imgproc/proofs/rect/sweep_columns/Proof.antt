@@ -1,6 +1,5 @@
 -- `sweep_columns` meets its contract: each column is a lane. Assumes nothing.
 use native.Mathlib.Omega.{arith}
-use Rattle.imgproc.specs.Sweeps.{LinesReady}
 use Rattle.imgproc.proofs.Lanes.{apart-within}
 use Rattle.imgproc.proofs.Planes.{off-within}
 use Rattle.imgproc.proofs.rect.sweep_columns.Statement.{statement}

@@ -1,5 +1,5 @@
 -- `sweep_rows` meets its contract: the rows above y are swept. Assumes nothing.
-use Prim.Native.Nat.{_+_, _-_, _*_, _≤_}
+use Prim.Native.Nat.{_+_, _-_, _*_}
 use native.Mathlib.Omega.{arith}
 use Rattle.imgproc.specs.Sweeps.{SweepReady}
 use Rattle.imgproc.proofs.Planes.{Sweeping, sweeping-none, sweeping-ready, sweeping-more, sweeping-all}

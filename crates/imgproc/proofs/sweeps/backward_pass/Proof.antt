@@ -7,7 +7,7 @@ use native.Mathlib.Omega.{arith}
 use borrow.Author.Tests.{eqb-true, eqb-false, ne-eqb}
 use Rattle.imgproc.specs.Reach.{backwardAt}
 use Rattle.imgproc.specs.Compared.{Before}
-use Rattle.imgproc.specs.Sweeps.{lane, Backwards, LanesReady}
+use Rattle.imgproc.specs.Sweeps.{lane, Backwards}
 use Rattle.imgproc.proofs.Blocks.{order}
 use Rattle.imgproc.proofs.Lanes.{apart-within, line-order, Upward, up-none, up-room, up-fits, up-all}
 use Rattle.imgproc.proofs.Passes.{backward-copy, backward-meet}

@@ -1,6 +1,5 @@
 -- `copy_lanes` meets its contract: x lanes are copied. Assumes nothing.
 use Prim.Native.Nat.{ℕ, _+_, _-_, _≤_}
-use mathlib.Core.Path.{_≡_}
 use native.Mathlib.Omega.{arith}
 use lib.ListN.{getD}
 use Rattle.imgproc.specs.Sweeps.{Rowed}

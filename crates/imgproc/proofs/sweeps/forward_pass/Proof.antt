@@ -5,7 +5,7 @@ use mathlib.Core.Logic.{inl}
 use native.Mathlib.Omega.{arith}
 use Rattle.imgproc.specs.Reach.{forwardAt}
 use Rattle.imgproc.specs.Compared.{Before}
-use Rattle.imgproc.specs.Sweeps.{lane, Forwards, LanesReady}
+use Rattle.imgproc.specs.Sweeps.{lane, Forwards}
 use Rattle.imgproc.proofs.Blocks.{order, after}
 use Rattle.imgproc.proofs.Lanes.{apart-within, line-before, Downward, down-none, down-room, down-fits, down-all}
 use Rattle.imgproc.proofs.Passes.{forward-copy, forward-meet}

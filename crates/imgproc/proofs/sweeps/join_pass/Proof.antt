@@ -4,7 +4,7 @@ use mathlib.Core.Path.{refl}
 use native.Mathlib.Omega.{arith}
 use Rattle.imgproc.specs.Reach.{joinAt}
 use Rattle.imgproc.specs.Compared.{first}
-use Rattle.imgproc.specs.Sweeps.{lane, Joins, LanesReady}
+use Rattle.imgproc.specs.Sweeps.{lane, Joins}
 use Rattle.imgproc.proofs.Lanes.{apart-within, line-order, Downward, down-none, down-room, down-fits, down-all}
 use Rattle.imgproc.proofs.Passes.{join-line}
 use borrow.Author.Needs.{needs}

@@ -1,6 +1,5 @@
 -- `running_extremum_1d` meets its contract: the three passes, one after another. Assumes nothing.
 use native.Mathlib.Omega.{arith}
-use Rattle.imgproc.specs.Sweeps.{PassReady, JoinReady}
 use Rattle.imgproc.proofs.Lanes.{apart-within, apart-swap}
 use Rattle.imgproc.proofs.Passes.{lines-swept, passed-room}
 use Rattle.imgproc.proofs.sweeps.running_extremum_1d.Statement.{statement}
@@ -34,7 +33,7 @@ backward-pass-requires c κs =
       target = omega arith;
       apart = apart-within _ _ _ _ (pre .source-apart) (omega arith) (omega arith) (omega arith) (omega arith);
       kernel = pre .kernel;
-      room = omega (arith, passed-room said);
+      room = omega (arith, passed-room _ _ _ _ _ (said .counted));
     }
 
 join-pass-requires : tie.Need-join-pass-requires
@@ -53,7 +52,7 @@ join-pass-requires c κs =
       left-apart = apart-within _ _ _ _ (apart-swap (pre .target-apart)) (omega arith) (omega arith) (omega arith) (omega arith);
       right-apart = apart-within _ _ _ _ (apart-swap (pre .target-apart)) (omega arith) (omega arith) (omega arith) (omega arith);
       kernel = pre .kernel;
-      room = omega (arith, passed-room first, passed-room second);
+      room = omega (arith, passed-room _ _ _ _ _ (first .counted), passed-room _ _ _ _ _ (second .counted));
     }
 
 same-length : tie.Need-same-length

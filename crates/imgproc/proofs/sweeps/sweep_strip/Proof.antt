@@ -1,7 +1,6 @@
 -- `sweep_strip` meets its contract: turned, swept as lanes, turned back. Assumes nothing.
 use mathlib.Core.Logic.{inl}
 use native.Mathlib.Omega.{arith}
-use Rattle.imgproc.specs.Sweeps.{LinesReady, TurnReady}
 use Rattle.imgproc.proofs.Lanes.{apart-within, apart-swap}
 use Rattle.imgproc.proofs.Planes.{strip-swept}
 use Rattle.imgproc.proofs.sweeps.sweep_strip.Statement.{statement}

@@ -1,0 +1,54 @@
+-- `divide_picture` flattens with a tally of its own and paints; the copy is never refused. Assumes nothing.
+use borrow.Author.Needs.{needs}
+use denote.Ref.{now}
+use Rattle.imgproc.proofs.DivisionRuns.{flatten-ready, picture-divided}
+use Rattle.imgproc.proofs.illumination.divide_picture.Statement.{statement}
+use Rattle.imgproc.proofs.illumination.divide_picture.Tie as tie
+
+mul-plane : tie.Need-mul-plane
+mul-plane c = search needs
+
+start-requires : tie.Need-start-requires
+start-requires c κs = search needs
+
+flatten-requires : tie.Need-flatten-requires
+flatten-requires c κs =
+    let begin = c .before in
+    let entry = begin .before .before .before .before .before in
+    let a = entry .args in
+    flatten-ready (now (a .src)) (a .src-geometry) (now (a .dst)) (a .dst-geometry) (a .config) (now (a .workspace)) (entry .pre) (begin .start .result) (begin .start .ensures)
+
+unpack-requires : tie.Need-unpack-requires
+unpack-requires c κs = search needs
+
+comparisons-requires : tie.Need-comparisons-requires
+comparisons-requires c κs = search needs
+
+same-length : tie.Need-same-length
+same-length c = search needs
+
+same-length-2 : tie.Need-same-length-2
+same-length-2 c = search needs
+
+returns : tie.Need-returns
+returns c =
+    let unpack = c .before .before .before in
+    let flat = unpack .before .before .before .before .before in
+    let begin = flat .before .before in
+    let entry = begin .before .before .before .before .before in
+    let a = entry .args in
+    picture-divided (now (a .src)) (a .src-geometry) (now (a .dst)) (a .dst-geometry) (a .config) (now (a .workspace)) (entry .pre) (begin .start .result) (begin .start .ensures)
+    (flat .flatten .result) (flat .flatten .last .1 .1 .1 .1 .0) (flat .flatten .ensures) (c .comparisons .result) (c .comparisons .ensures) (unpack .unpack .ensures)
+
+pub divide-picture-spec : {M : Type 1} → statement M
+divide-picture-spec =
+    tie.close
+    (tie.spec
+    mul-plane
+    start-requires
+    flatten-requires
+    unpack-requires
+    comparisons-requires
+    same-length
+    same-length-2
+    returns)

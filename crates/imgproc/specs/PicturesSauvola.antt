@@ -1,0 +1,60 @@
+-- The pictures of document 01's part 6, and one of our own with rows, columns and clipped corners: a part of the table in Pictures. Definitions only.
+use mathlib.Core.List.{List, [], _∷_}
+use Prim.Native.Nat.{ℕ}
+use lib.ListN.{replicate}
+use Rattle.image.specs.declared.Geometry.{Geometry}
+use Rattle.image.specs.Plane.{plane, packed}
+use Rattle.imgproc.specs.declared.threshold.SauvolaConfig.{SauvolaConfig}
+use Rattle.imgproc.specs.Sauvola.{sauvolaDefaults, thresholdAt, binarised, binarisedInto}
+use Rattle.imgproc.specs.Cases.{Case, _gives_}
+
+-- the thresholds of a packed picture
+abbrev pub thresholds : SauvolaConfig → ℕ → ℕ → List ℕ → List ℕ
+unfolding thresholdAt plane
+thresholds config w h p = plane w h (thresholdAt config w h p)
+
+-- the defaults with the radius r, and the values 7 and 9
+abbrev pub radiusOf : ℕ → SauvolaConfig
+radiusOf r = record { radius = r; «k_milli» = 200; «dynamic_range» = 128; «dark_value» = 7; «light_value» = 9 }
+
+abbrev pub geometry : ℕ → ℕ → ℕ → Geometry
+geometry w h stride = record { width = w; height = h; stride = stride }
+
+-- 3 by 4 at a stride of 5
+abbrev pub mixed : List ℕ
+mixed =
+    10 ∷ 200 ∷ 30 ∷ 77 ∷ 78 ∷
+    250 ∷ 60 ∷ 70 ∷ 77 ∷ 78 ∷
+    90 ∷ 5 ∷ 255 ∷ 77 ∷ 78 ∷
+    0 ∷ 33 ∷ 120 ∷
+    []
+
+unfoldable pub sauvolaPictures : List Case
+sauvolaPictures =
+    -- ★ one pixel 0 is dark, one pixel 1 light
+    (binarised sauvolaDefaults 1 1 (0 ∷ []) gives 0 ∷ []) ∷
+    (binarised sauvolaDefaults 1 1 (1 ∷ []) gives 255 ∷ []) ∷
+    -- ★ row 0 200
+    (thresholds sauvolaDefaults 2 1 (0 ∷ 200 ∷ []) gives 95 ∷ 95 ∷ []) ∷
+    -- ★ nine 255 and one 254, radius 9
+    (thresholds (radiusOf 9) 10 1 (255 ∷ 255 ∷ 255 ∷ 255 ∷ 255 ∷ 255 ∷ 255 ∷ 255 ∷ 255 ∷ 254 ∷ []) gives
+    211 ∷ 211 ∷ 211 ∷ 211 ∷ 211 ∷ 211 ∷ 211 ∷ 211 ∷ 211 ∷ 211 ∷ []) ∷
+    -- the root of the variance 10200 is cut to 100; a threshold is no byte
+    (thresholds (record { radius = 8; «k_milli» = 1000; «dynamic_range» = 1; «dark_value» = 0; «light_value» = 255 }) 2 1 (0 ∷ 201 ∷ []) gives 10000 ∷ 10000 ∷ []) ∷
+    -- windows of nine, six and four pixels
+    (thresholds (radiusOf 1) 3 4 (packed mixed 3 4 5) gives
+    123 ∷ 96 ∷ 81 ∷
+    96 ∷ 101 ∷ 97 ∷
+    67 ∷ 92 ∷ 83 ∷
+    27 ∷ 77 ∷ 97 ∷
+    []) ∷
+    -- the bytes, in a destination of stride 4 with a row and a byte after the last
+    (binarisedInto (radiusOf 1) mixed (geometry 3 4 5) (replicate 21 1) (geometry 3 4 4) gives
+    7 ∷ 9 ∷ 7 ∷ 1 ∷
+    9 ∷ 7 ∷ 7 ∷ 1 ∷
+    9 ∷ 7 ∷ 9 ∷ 1 ∷
+    7 ∷ 7 ∷ 9 ∷ 1 ∷
+    1 ∷ 1 ∷ 1 ∷ 1 ∷
+    1 ∷
+    []) ∷
+    []

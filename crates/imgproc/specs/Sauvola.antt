@@ -1,0 +1,91 @@
+-- Document 01, part 6: the whole-number threshold of a pixel, by direct summation over its window, and the contract of `sauvola_into`. Definitions only.
+use Prim.Native.Nat.{ℕ, _+_, _-_, _*_, _/_}
+use mathlib.Core.Path.{_≡_}
+use mathlib.Core.Bool.{Bool, cond}
+use mathlib.Core.List.{List}
+use lib.Dec.{leb}
+use lib.ListN.{length}
+use Rattle.image.specs.declared.Geometry.{Geometry}
+use Rattle.image.specs.Plane.{pixel, plane, packed, painted}
+use Rattle.imgproc.specs.declared.Check.{Check}
+use Rattle.imgproc.specs.declared.Check.the-variants.{Accepted, Refused}
+use Rattle.imgproc.specs.declared.threshold.SauvolaConfig.{SauvolaConfig}
+use Rattle.imgproc.specs.declared.threshold.Binarized.{Binarized}
+use Rattle.imgproc.specs.declared.threshold.Binarized.the-variants.{Done, Refused as Binarized·Refused}
+use Rattle.imgproc.specs.Fold.{Box, foldBox}
+use Rattle.imgproc.specs.Reach.{low, high}
+use Rattle.imgproc.specs.Sums.{sum, sumSquares, count}
+use Rattle.imgproc.specs.WholeRoot.{wholeRoot}
+use Rattle.imgproc.specs.Refusals.{errorNumber, sauvolaCheck, leftBy, Lent}
+
+-- the Rust's defaults
+abbrev pub sauvolaDefaults : SauvolaConfig
+sauvolaDefaults = record { radius = 8; «k_milli» = 200; «dynamic_range» = 128; «dark_value» = 0; «light_value» = 255 }
+
+-- the window of pixel (x, y): all pixels within the radius on both axes, clipped
+abbrev pub window : ℕ → ℕ → ℕ → ℕ → ℕ → Box
+window r w h x y = record { left = low r x; right = high r w x; top = low r y; bottom = high r h y }
+
+-- mean = ⌊S/c⌋
+abbrev pub mean : ℕ → ℕ → ℕ
+mean S c = S / c
+
+-- variance = ⌊Q/c⌋ - mean²
+abbrev pub variance : ℕ → ℕ → ℕ → ℕ
+variance S Q c = Q / c - mean S c * mean S c
+
+-- s, the largest whole number whose square is at most the variance
+unfoldable pub spread : ℕ → ℕ → ℕ → ℕ
+unfolding wholeRoot
+spread S Q c = wholeRoot (variance S Q c)
+
+-- scale = 1000 - k_milli + ⌊k_milli × s / dynamic_range⌋
+abbrev pub scale : SauvolaConfig → ℕ → ℕ
+scale config s = 1000 - config .«k_milli» + config .«k_milli» * s / config .«dynamic_range»
+
+-- threshold = ⌊mean × scale / 1000⌋
+unfoldable pub threshold : SauvolaConfig → ℕ → ℕ → ℕ → ℕ
+unfolding spread
+threshold config S Q c = mean S c * scale config (spread S Q c) / 1000
+
+-- the threshold of pixel (x, y) of the packed picture p
+unfoldable pub thresholdAt : SauvolaConfig → ℕ → ℕ → List ℕ → ℕ → ℕ → ℕ
+unfolding threshold foldBox
+thresholdAt config w h p x y =
+    let b = window (config .radius) w h x y in threshold config (sum (pixel p w) b) (sumSquares (pixel p w) b) (count b)
+
+-- a pixel at or below its threshold is dark
+unfoldable pub atOrBelow : SauvolaConfig → ℕ → ℕ → List ℕ → ℕ → ℕ → Bool
+unfolding thresholdAt
+atOrBelow config w h p x y = leb (pixel p w x y) (thresholdAt config w h p x y)
+
+-- the value that pixel (x, y) gets
+unfoldable pub verdict : SauvolaConfig → ℕ → ℕ → List ℕ → ℕ → ℕ → ℕ
+unfolding atOrBelow
+verdict config w h p x y = cond (atOrBelow config w h p x y) (config .«dark_value») (config .«light_value»)
+
+-- the packed picture of the verdicts on the packed picture p
+unfoldable pub binarised : SauvolaConfig → ℕ → ℕ → List ℕ → List ℕ
+unfolding plane verdict
+binarised config w h p = plane w h (verdict config w h p)
+
+-- the answer of a call
+abbrev pub binarizedBy : Check → Binarized
+binarizedBy Accepted = Done
+binarizedBy (Refused e) = Binarized·Refused e
+
+-- the number of an answer: 0 where the call is done, else its refusal's
+abbrev pub binarizedNumber : Binarized → ℕ
+binarizedNumber Done = 0
+binarizedNumber (Binarized·Refused e) = errorNumber e
+
+-- the destination after an accepted call: its rows hold the verdicts on the source
+abbrev pub binarisedInto : SauvolaConfig → List ℕ → Geometry → List ℕ → Geometry → List ℕ
+binarisedInto config src g dst d =
+    painted (binarised config (g .width) (g .height) (packed src (g .width) (g .height) (g .stride))) (g .width) (g .height) (d .stride) dst
+
+-- the contract of `sauvola_into`: its answer, the destination's bytes, and the workspace
+pub record Binarizes (src : List ℕ) (g : Geometry) (dst : List ℕ) (d : Geometry) (config : SauvolaConfig) (workspace : List ℕ) (answer : Binarized) (dst′ workspace′ : List ℕ) : Type 0 where
+  pub answers : answer ≡ binarizedBy (sauvolaCheck (length src) g (length dst) d config (length workspace))
+  pub leaves : dst′ ≡ leftBy (sauvolaCheck (length src) g (length dst) d config (length workspace)) (binarisedInto config src g dst d) dst
+  pub keeps : Lent (sauvolaCheck (length src) g (length dst) d config (length workspace)) workspace workspace′

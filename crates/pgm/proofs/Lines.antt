@@ -1,0 +1,44 @@
+-- The lines as the texts that are written one after another, and the two ways out of a function that writes one. Assumes nothing.
+use Prim.Native.Nat.{ℕ, _+_, _≤_, _<_}
+use native.Mathlib.Nat.{zero-add}
+use native.Mathlib.Omega.{arith}
+use mathlib.Core.Path.{_≡_, _∙_}
+use mathlib.Core.List.{List, [], _∷_, _++_, append-assoc}
+use lib.ListN.{length, length-append}
+use borrow.Author.Tests.{lt-ltb, le-ltb}
+use Rattle.pgm.specs.Decimal.{decimal}
+use Rattle.pgm.specs.Line.{line, lineRoom, Writes}
+use Rattle.pgm.specs.Steps.{three, Puts}
+
+-- a number and a byte
+abbrev pub field : ℕ → ℕ → List ℕ
+field n end = decimal n ++ (end ∷ [])
+
+-- it is one byte longer than the number
+pub field-long : (n end : ℕ) → length (field n end) ≡ length (decimal n) + 1
+field-long n end = length-append (decimal n) (end ∷ [])
+
+-- three fields are three numbers with spaces between
+pub fields-three : (a b c end : ℕ) → (field a 32 ++ field b 32) ++ field c end ≡ three a b c end
+fields-three a b c end = simp append-assoc
+
+-- with a byte after each number
+pub three-long : (a b c end : ℕ) → length (three a b c end) ≡ length (decimal a) + length (decimal b) + length (decimal c) + 3
+three-long a b c end = simp length-append (omega arith)
+
+-- twice three are the line of six
+pub threes-line : (a b c d e f : ℕ) → three a b c 32 ++ three d e f 10 ≡ line (a ∷ b ∷ c ∷ d ∷ e ∷ f ∷ [])
+threes-line a b c d e f = simp append-assoc
+
+module _ (text before : List ℕ) where
+  -- a buffer that is too short
+  pub no-room : length before < lineRoom → Writes text before 0 before
+  no-room s = record { answers = rw (lt-ltb (length before) lineRoom s); leaves = rw (lt-ltb (length before) lineRoom s) }
+
+  -- a line that was written at the start
+  pub written : (answer : ℕ) (after : List ℕ) → lineRoom ≤ length before → Puts text 0 before answer after → Writes text before answer after
+  written answer after s p =
+      record {
+        answers = p .answers ∙ rw (le-ltb (length before) lineRoom s, zero-add);
+        leaves = p .leaves ∙ rw (le-ltb (length before) lineRoom s, zero-add);
+      }

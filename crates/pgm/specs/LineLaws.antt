@@ -1,0 +1,23 @@
+-- Every line of 64-bit numbers fits the room that is asked for. Assumes nothing.
+use Prim.Native.Nat.{ℕ, _^_, _≤_, _<_}
+use native.Mathlib.Omega.{arith}
+use mathlib.Core.List.{[], _∷_}
+use lib.ListN.{length, length-append}
+use Rattle.pgm.specs.Decimal.{decimal}
+use Rattle.pgm.specs.DecimalLaws.{decimal-short}
+use Rattle.pgm.specs.Line.{line, refusedLine, lineRoom}
+
+-- a number of 64 bits has at most 20 digits
+pub word-short : (n : ℕ) → n < 2 ^ 64 → length (decimal n) ≤ 20
+word-short n h = decimal-short n 19 (omega arith)
+
+-- the line of six numbers fits
+pub counts-fit : (a b c d e f : ℕ) → a < 2 ^ 64 → b < 2 ^ 64 → c < 2 ^ 64 → d < 2 ^ 64 → e < 2 ^ 64 → f < 2 ^ 64 →
+    length (line (a ∷ b ∷ c ∷ d ∷ e ∷ f ∷ [])) ≤ lineRoom
+counts-fit a b c d e f A B C D E F =
+    simp length-append
+    (omega (arith, word-short a A, word-short b B, word-short c C, word-short d D, word-short e E, word-short f F))
+
+-- the line of a refusal fits
+pub refused-fits : (n : ℕ) → n < 2 ^ 64 → length (refusedLine n) ≤ lineRoom
+refused-fits n h = simp length-append (omega (arith, word-short n h))
