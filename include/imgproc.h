@@ -12,14 +12,19 @@
  *    2  the stride is below the width
  *    3  the range is shorter than the picture needs
  *    4  a side is above 4096
+ *    5  source and destination differ in width or height
+ *    6  the kernel is even or below 3
+ *    7  a setting is out of range
  *    8  the range to copy to, or the workspace, is too short
  *    9  the pixel or row lies outside the picture
  *
  * "Layout" below means 1, 2, 3 and 4, in this order. Lengths are exact: no product of stride and height wraps.
+ * Where a call takes both src and dst, its workspace is room to work in: what it held before does not matter, and what
+ * an accepted call leaves there is not promised.
  *
  * What the caller has to see to, and no proof can:
  *  - Each pointer is valid for its length: that many bytes (or numbers) may be read there, and written where the
- *    pointer is not to const. A pointer to a single number is valid for that number, and aligned for its type.
+ *    pointer is not to const. A pointer to a single number is valid for that number. Each is aligned for its type.
  *  - No two lent ranges overlap, unless both are only read. This goes for numbers behind pointers too.
  *  - No pointer is null, not even where the length is 0.
  *  - Nobody else writes to what is lent, or reads what is written, while a call runs.
@@ -64,6 +69,64 @@ uint32_t imgproc_pack(const uint8_t *src, size_t src_len, size_t width, size_t h
    of dst, then 8 where the plane does not lie in the workspace. */
 uint32_t imgproc_unpack(const uint8_t *workspace, size_t workspace_len, size_t at,
                         uint8_t *dst, size_t dst_len, size_t width, size_t height, size_t stride);
+
+/* Erosion, dilation, opening (erosion, then dilation) and closing (dilation, then erosion) with a square kernel. In a
+   line of n samples with r = (kernel_size - 1) / 2, position i has low = max(0, i - r) and high = min(i + r, n - 1);
+   its reach is low..high where low / kernel_size and high / kernel_size differ (rounded down), else the whole block of
+   kernel_size samples that holds them, cut at the line's end. Erosion is the minimum over the reach of x times the
+   reach of y, dilation the maximum. The rows of dst are written and no other byte of it; *comparisons is the number of
+   comparisons of samples. Strides may differ. Refused: layout of src, layout of dst, 5, 6, then 8 where workspace_len
+   is below 6 * width * height. */
+uint32_t imgproc_grayscale_erode_into(const uint8_t *src, size_t src_len,
+                                      size_t src_width, size_t src_height, size_t src_stride,
+                                      uint8_t *dst, size_t dst_len,
+                                      size_t dst_width, size_t dst_height, size_t dst_stride,
+                                      size_t kernel_size, uint8_t *workspace, size_t workspace_len,
+                                      uint64_t *comparisons);
+uint32_t imgproc_grayscale_dilate_into(const uint8_t *src, size_t src_len,
+                                       size_t src_width, size_t src_height, size_t src_stride,
+                                       uint8_t *dst, size_t dst_len,
+                                       size_t dst_width, size_t dst_height, size_t dst_stride,
+                                       size_t kernel_size, uint8_t *workspace, size_t workspace_len,
+                                       uint64_t *comparisons);
+uint32_t imgproc_grayscale_open_into(const uint8_t *src, size_t src_len,
+                                     size_t src_width, size_t src_height, size_t src_stride,
+                                     uint8_t *dst, size_t dst_len,
+                                     size_t dst_width, size_t dst_height, size_t dst_stride,
+                                     size_t kernel_size, uint8_t *workspace, size_t workspace_len,
+                                     uint64_t *comparisons);
+uint32_t imgproc_grayscale_close_into(const uint8_t *src, size_t src_len,
+                                      size_t src_width, size_t src_height, size_t src_stride,
+                                      uint8_t *dst, size_t dst_len,
+                                      size_t dst_width, size_t dst_height, size_t dst_stride,
+                                      size_t kernel_size, uint8_t *workspace, size_t workspace_len,
+                                      uint64_t *comparisons);
+
+/* Divides each pixel by its background: the closing with kernel structuring_element, raised to denominator_floor where
+   it is below. The value is pixel * target_luma / background, rounded down, at most 255. The rows of dst are written
+   and no other byte of it; *comparisons is the number of comparisons of samples. Refused: layout of src, layout of
+   dst, 5, then 7 where structuring_element is even or below 3 or denominator_floor is 0, then 8 where workspace_len is
+   below 7 * width * height. */
+uint32_t imgproc_background_divide_into(const uint8_t *src, size_t src_len,
+                                        size_t src_width, size_t src_height, size_t src_stride,
+                                        uint8_t *dst, size_t dst_len,
+                                        size_t dst_width, size_t dst_height, size_t dst_stride,
+                                        size_t structuring_element, uint8_t target_luma, uint8_t denominator_floor,
+                                        uint8_t *workspace, size_t workspace_len, uint64_t *comparisons);
+
+/* Writes dark_value for each pixel at or below its threshold and light_value for every other. Over the window of all
+   pixels within radius on both axes, cut at the borders, with sum S, sum of squares Q and count c, all quotients
+   rounded down: mean = S / c; s = the largest whole number whose square is at most Q / c - mean * mean;
+   scale = 1000 - k_milli + k_milli * s / dynamic_range; threshold = mean * scale / 1000. The rows of dst are written
+   and no other byte of it. Refused: layout of src, layout of dst, 5, then 7 where radius is 0, k_milli above 1000 or
+   dynamic_range 0, then 8 where workspace_len is below 2 * (width + 1) * (height + 1) numbers. */
+uint32_t imgproc_sauvola_into(const uint8_t *src, size_t src_len,
+                              size_t src_width, size_t src_height, size_t src_stride,
+                              uint8_t *dst, size_t dst_len,
+                              size_t dst_width, size_t dst_height, size_t dst_stride,
+                              size_t radius, uint32_t k_milli, uint32_t dynamic_range,
+                              uint8_t dark_value, uint8_t light_value,
+                              uint64_t *workspace, size_t workspace_len);
 
 #ifdef __cplusplus
 }

@@ -14,3 +14,5 @@ pub mod TableLaws
 pub mod CornerLaws
 pub mod VerdictLaws
 pub mod Answers
+pub mod Folds
+pub mod Writes

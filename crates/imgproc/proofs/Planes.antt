@@ -16,7 +16,7 @@ use Rattle.imgproc.specs.Walks.{cases, line-walks-le}
 use Rattle.imgproc.specs.Compared.{Before, first}
 use Rattle.imgproc.specs.Morphology.{sweptRect, swept}
 use Rattle.imgproc.specs.MorphologyLaws.{reach-in, is-swept}
-use Rattle.imgproc.specs.Sweeps.{lane, Off, Spared, Reached, LinesSwept, Turned, SweepReady, RowsSwept, ColumnsSwept, MorphReady, Morphed, TwiceReady, TwiceMorphed}
+use Rattle.imgproc.specs.Sweeps.{lane, Off, Spared, Reached, LinesSwept, Turned, SweepReady, RowsSwept, ColumnsSwept, MorphReady, Morphed, PairReady, PairMorphed, TwiceReady, TwiceMorphed}
 use Rattle.imgproc.proofs.Blocks.{order, seen}
 use Rattle.imgproc.proofs.Lanes.{off, apart-within, outside-at, line-order}
 
@@ -187,15 +187,15 @@ module _ (side : Bool) (kx ky from to spare w h : ℕ) (t a : Tally) (d e : List
           };
         }
 
--- ---- two of them: an opening or a closing
-module _ (one : Bool) (k from to spare w h : ℕ) (t a : Tally) (d e : List ℕ) (ready : TwiceReady t d from to spare k w h)
-    (once : Morphed t d from to spare k k w h one a e) where
-  pub again-ready : MorphReady a e to to spare k k w h
+-- ---- two of them, the second of what the first left
+module _ (one : Bool) (kx ky from to spare w h : ℕ) (t a : Tally) (d e : List ℕ) (ready : PairReady t d from to spare kx ky w h)
+    (once : Morphed t d from to spare kx ky w h one a e) where
+  pub again-ready : MorphReady a e to to spare kx ky w h
   again-ready =
-      let p = ready .rows in
+      let p = ready .once .rows in
       let long = once .kept .long in
-      let across : h * lineWalks k w ≤ h * (3 * w) = mul-le-mul-left h (line-walks-le k w) in
-      let down : w * lineWalks k h ≤ w * (3 * h) = mul-le-mul-left w (line-walks-le k h) in
+      let across : h * lineWalks kx w ≤ h * (3 * w) = mul-le-mul-left h (line-walks-le kx w) in
+      let down : w * lineWalks ky h ≤ w * (3 * h) = mul-le-mul-left w (line-walks-le ky h) in
       record {
         rows = record {
           source = omega (arith, p .target);
@@ -207,17 +207,25 @@ module _ (one : Bool) (k from to spare w h : ℕ) (t a : Tally) (d e : List ℕ)
           kernel = p .kernel;
           room = omega (arith, ready .room, once .counted);
         };
-        columns = p .kernel;
-        wide = ready .wide;
+        columns = ready .once .columns;
+        wide = ready .once .wide;
         room = omega (arith, ready .room, once .counted);
       }
 
-  pub twice-morphed : (two : Bool) (r : Tally) (g : List ℕ) → Morphed a e to to spare k k w h two r g → TwiceMorphed (λ k w h p. swept (first two) k w h (swept (first one) k w h p)) t d from to spare k w h r g
-  twice-morphed two r g again = record {
-    leaves = again .leaves ∙ ap (sweptRect (first two) k k w h) (once .leaves);
+  pub pair-morphed : (two : Bool) (r : Tally) (g : List ℕ) → Morphed a e to to spare kx ky w h two r g → PairMorphed t d from to spare kx ky w h one two r g
+  pair-morphed two r g again = record {
+    leaves = again .leaves ∙ ap (sweptRect (first two) kx ky w h) (once .leaves);
     counted = omega (arith, once .counted, again .counted);
     kept = record {
       long = again .kept .long ∙ once .kept .long;
       same = λ j u v. again .kept .same j u v ∙ once .kept .same j u v;
     };
   }
+
+-- ---- an opening or a closing: two of them with the kernel k
+pub pair-ready : {t : Tally} {d : List ℕ} {from to spare k w h : ℕ} → TwiceReady t d from to spare k w h → PairReady t d from to spare k k w h
+pair-ready p = record { once = record { rows = p .rows; columns = p .rows .kernel; wide = p .wide; room = omega (arith, p .room) }; room = p .room }
+
+pub twice-morphed : (one two : Bool) {t r : Tally} {d g : List ℕ} {from to spare k w h : ℕ} → PairMorphed t d from to spare k k w h one two r g
+    → TwiceMorphed (λ k w h p. swept (first two) k w h (swept (first one) k w h p)) t d from to spare k w h r g
+twice-morphed one two p = record { leaves = p .leaves; counted = p .counted; kept = p .kept }

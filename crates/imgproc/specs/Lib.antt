@@ -16,6 +16,14 @@ pub mod WholeRoot
 pub mod Sauvola
 pub mod SauvolaLaws
 pub mod Tables
+pub mod Root
+pub mod RootParts
+pub mod Grid
+pub mod Tiles
+pub mod GridLaws
+pub mod Surface
+pub mod GridCalls
 pub mod Cases
 pub mod PicturesSauvola
+pub mod PicturesGrid
 pub mod Pictures

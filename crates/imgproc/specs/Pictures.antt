@@ -2,13 +2,17 @@
 use mathlib.Core.Path.{_≡_, refl}
 use mathlib.Core.List.{List, [], _∷_, _++_}
 use Prim.Native.Nat.{ℕ, min, _*_}
+use lib.Ieee.{ofBits, lt}
 use Rattle.imgproc.specs.Reach.{walk, sweepWalks, R}
 use Rattle.image.specs.Plane.{packed, painted}
 use Rattle.imgproc.specs.declared.illumination.BackgroundDivideConfig.{BackgroundDivideConfig}
 use Rattle.imgproc.specs.Cases.{Case, _gives_, wrong}
 use Rattle.imgproc.specs.Division.{divided}
 use Rattle.imgproc.specs.Sauvola.{thresholdAt, binarised}
+use Rattle.imgproc.specs.Grid.{thresholds, skips}
+use Rattle.imgproc.specs.GridCalls.{badGrid, allSkipped}
 use Rattle.imgproc.specs.PicturesSauvola.{sauvolaPictures}
+use Rattle.imgproc.specs.PicturesGrid.{gridPictures}
 use Rattle.imgproc.specs.Morphology.{sweptRect, eroded, dilated, opened, closed}
 
 -- ★ part 2, with pictures of our own for columns, both axes and borders
@@ -31,6 +35,7 @@ morphologyPictures =
     (sweptRect min 3 5 4 2 (9 ∷ 9 ∷ 9 ∷ 2 ∷ 9 ∷ 9 ∷ 9 ∷ 9 ∷ []) gives 9 ∷ 9 ∷ 2 ∷ 2 ∷ 9 ∷ 9 ∷ 2 ∷ 2 ∷ []) ∷
     []
 
+-- the Rust's settings with another element
 abbrev pub division : ℕ → BackgroundDivideConfig
 division element = record { «structuring_element» = element; «target_luma» = 200; «denominator_floor» = 8 }
 
@@ -40,8 +45,10 @@ divisionPictures =
     (divided (division 3) 4 1 (255 ∷ 0 ∷ 0 ∷ 0 ∷ []) gives 255 ∷ 0 ∷ 0 ∷ 0 ∷ []) ∷
     (divided (division 3) 1 1 (3 ∷ []) gives 75 ∷ []) ∷
     (divided (division 3) 1 1 (8 ∷ []) gives 200 ∷ []) ∷
+    (divided (division 3) 4 4 (10 ∷ 200 ∷ 30 ∷ 60 ∷ 90 ∷ 5 ∷ 120 ∷ 8 ∷ 250 ∷ 40 ∷ 0 ∷ 77 ∷ 3 ∷ 180 ∷ 66 ∷ 20 ∷ []) gives
+    11 ∷ 222 ∷ 50 ∷ 100 ∷ 100 ∷ 5 ∷ 200 ∷ 13 ∷ 255 ∷ 44 ∷ 0 ∷ 200 ∷ 3 ∷ 200 ∷ 171 ∷ 51 ∷ []) ∷
     []
 
-pub pictures-hold : wrong 1 (morphologyPictures ++ (divisionPictures ++ sauvolaPictures)) ≡ []
-unfolding morphologyPictures divisionPictures sauvolaPictures sweptRect walk R divided thresholdAt binarised packed painted
+pub pictures-hold : wrong 1 (morphologyPictures ++ (divisionPictures ++ (sauvolaPictures ++ gridPictures))) ≡ []
+unfolding morphologyPictures divisionPictures sauvolaPictures gridPictures thresholds skips ofBits lt badGrid allSkipped sweptRect walk R divided thresholdAt binarised packed painted
 pictures-hold = refl

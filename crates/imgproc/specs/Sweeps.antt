@@ -155,6 +155,17 @@ pub record Morphed (tally : Tally) (d : List ℕ) (from to spare kx ky w h : ℕ
   pub counted : raised .comparisons ≡ tally .comparisons + rectWalks kx ky w h
   pub kept : Spared to (w * h) spare (3 * (w * h)) d d′
 
+-- what two of them ask, the second of what the first left: what the first asks, and room in the tally for all four sweeps
+pub record PairReady (tally : Tally) (d : List ℕ) (from to spare kx ky w h : ℕ) : Type 0 where
+  pub once : MorphReady tally d from to spare kx ky w h
+  pub room : tally .comparisons + 12 * (w * h) < 2 ^ 64
+
+-- two of them, of the sides `one` and `two`, of the packed plane at `from`, left at `to`
+pub record PairMorphed (tally : Tally) (d : List ℕ) (from to spare kx ky w h : ℕ) (one two : Bool) (raised : Tally) (d′ : List ℕ) : Type 0 where
+  pub leaves : part to (w * h) d′ ≡ sweptRect (first two) kx ky w h (sweptRect (first one) kx ky w h (part from (w * h) d))
+  pub counted : raised .comparisons ≡ tally .comparisons + 2 * rectWalks kx ky w h
+  pub kept : Spared to (w * h) spare (3 * (w * h)) d d′
+
 -- what an opening or a closing asks
 pub record TwiceReady (tally : Tally) (d : List ℕ) (from to spare k w h : ℕ) : Type 0 where
   pub rows : SweepReady tally d from to spare k w h

@@ -1,11 +1,17 @@
 // Operators on grey pictures: what each refuses, by kind and by number.
+mod base;
+pub mod grid;
 pub mod illumination;
 pub mod morphology;
+mod query;
 mod rect;
+pub mod root;
+mod surface;
 mod sweeps;
 mod tables;
 mod tally;
 pub mod threshold;
+mod tiles;
 
 use image::Layout;
 use image::LumaError;

@@ -1,2 +1,3 @@
 -- What the exports promise, in the words of the libraries below.
 pub mod Picture
+pub mod Operators

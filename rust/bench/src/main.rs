@@ -19,6 +19,9 @@ macro_rules! subjects {
 // A subject is measured when its line stands here and its module in imgproc.
 subjects! {
     image
+    morphology
+    illumination
+    sauvola
 }
 
 fn main() {

@@ -31,6 +31,9 @@ macro_rules! subjects {
 // A subject is run when its line stands here and its module in imgproc.
 subjects! {
     image
+    morphology
+    illumination
+    sauvola
 }
 
 const SEED: u64 = 20_261_017;

@@ -24,7 +24,10 @@
 mod refusal;
 pub use refusal::{LumaError, Refusal};
 
+pub mod illumination;
 pub mod image;
+pub mod morphology;
+pub mod sauvola;
 
 /// The largest side of a picture.
 pub const MAX_SIDE: usize = 4096;

@@ -1,34 +1,22 @@
--- `sweep_columns` meets its contract: each column is a lane. Assumes nothing.
-use native.Mathlib.Omega.{arith}
-use Rattle.imgproc.proofs.Lanes.{apart-within}
-use Rattle.imgproc.proofs.Planes.{off-within}
-use Rattle.imgproc.proofs.rect.sweep_columns.Statement.{statement}
-use Rattle.imgproc.proofs.rect.sweep_columns.Tie as tie
+-- `imgproc::rect::sweep_columns` meets its contract: its MIR is `Thin.antt`'s, over `column_core`. Assumes nothing.
+use contract.Running.{givenOf, tables, tablesOf}
+use denote.Triple.Spec.{tripleOf}
+use denote.Triple.Table.{entered, cited}
+use Rattle.imgproc.proofs.rect.Thin.{thin-meets}
+use Rattle.imgproc.proofs.rect.Says.{Asks, ColumnsSay}
+use Rattle.imgproc.proofs.rect.column_core as core
+use Rattle.imgproc.proofs.rect.column_core.Symbol as core-def
+use Rattle.imgproc.proofs.rect.column_core.Symbol.{name as #core}
+use Rattle.imgproc.proofs.rect.column_core.Met as core-thm
+use Rattle.imgproc.proofs.rect.sweep_columns.Key.{name as #own}
+use Rattle.imgproc.proofs.rect.sweep_columns as own
+use Rattle.imgproc.proofs.rect.sweep_columns.Statement as stated
+use Rattle.imgproc.proofs.rect.sweep_columns.Code as code
 
-running-extremum-1d-requires : tie.Need-running-extremum-1d-requires
-running-extremum-1d-requires c κs =
-    let pre = c .before .before .pre in
-    record {
-      source = omega arith;
-      target = omega arith;
-      scratch = omega arith;
-      source-apart = apart-within _ _ _ _ (pre .source-apart) (omega arith) (omega arith) (omega arith) (omega arith);
-      target-apart = apart-within _ _ _ _ (pre .target-apart) (omega arith) (omega arith) (omega arith) (omega arith);
-      kernel = pre .kernel;
-      room = omega arith;
-    }
-
-same-length : tie.Need-same-length
-same-length c = c .before .before .running-extremum-1d .ensures .kept .long
-
-returns : tie.Need-returns
-returns c =
-    let said = c .before .before .running-extremum-1d .ensures in
-    record {
-      each = said .each;
-      counted = said .counted;
-      kept = record { long = said .kept .long; same = λ j p q. said .kept .same j p (off-within _ _ q (omega arith) (omega arith)) };
-    }
-
-pub sweep-columns-spec : {M : Type 1} → statement M
-sweep-columns-spec = tie.close (tie.spec running-extremum-1d-requires same-length returns)
+pub sweep-columns-spec : {M : Type 1} → stated.statement M
+unfolding code.routine tablesOf
+sweep-columns-spec 𝓤 H 𝓜 𝓖 𝓡 =
+    entered 𝓤 H (tripleOf 𝓤 H (𝓖 .A) own.signature (own.spec 𝓤 H (𝓖 .A) (𝓜 .mem) (𝓡 .run)))
+    (tables 𝓤 H 𝓜 𝓡 code.env .C) (tables 𝓤 H 𝓜 𝓡 code.env .Λ) #own code.function (code.unfolded 𝓤 H 𝓜 𝓡)
+    (thin-meets Asks ColumnsSay 𝓤 H (𝓖 .A) (givenOf 𝓤 H 𝓜 𝓖) #core (tablesOf 𝓤 H 𝓜 (tables 𝓤 H 𝓜 𝓡 code.env))
+    (cited 𝓤 H (tripleOf 𝓤 H (𝓖 .A) core.signature (core.spec 𝓤 H (𝓖 .A) (𝓜 .mem) (𝓡 .run))) 𝓜 𝓡 code.env #core core-def.routine code.calls-imgproc·rect·column-core (core-thm.met 𝓤 H 𝓜 𝓖 𝓡)))

@@ -1,93 +1,22 @@
--- `sweep_rows` meets its contract: the rows above y are swept. Assumes nothing.
-use Prim.Native.Nat.{_+_, _-_, _*_}
-use native.Mathlib.Omega.{arith}
-use Rattle.imgproc.specs.Sweeps.{SweepReady}
-use Rattle.imgproc.proofs.Planes.{Sweeping, sweeping-none, sweeping-ready, sweeping-more, sweeping-all}
-use Rattle.imgproc.proofs.rect.sweep_rows.Statement.{statement}
-use Rattle.imgproc.proofs.rect.sweep_rows.Tie as tie
+-- `imgproc::rect::sweep_rows` meets its contract: its MIR is `Thin.antt`'s, over `row_core`. Assumes nothing.
+use contract.Running.{givenOf, tables, tablesOf}
+use denote.Triple.Spec.{tripleOf}
+use denote.Triple.Table.{entered, cited}
+use Rattle.imgproc.proofs.rect.Thin.{thin-meets}
+use Rattle.imgproc.proofs.rect.Says.{Asks, RowsSay}
+use Rattle.imgproc.proofs.rect.row_core as core
+use Rattle.imgproc.proofs.rect.row_core.Symbol as core-def
+use Rattle.imgproc.proofs.rect.row_core.Symbol.{name as #core}
+use Rattle.imgproc.proofs.rect.row_core.Met as core-thm
+use Rattle.imgproc.proofs.rect.sweep_rows.Key.{name as #own}
+use Rattle.imgproc.proofs.rect.sweep_rows as own
+use Rattle.imgproc.proofs.rect.sweep_rows.Statement as stated
+use Rattle.imgproc.proofs.rect.sweep_rows.Code as code
 
-abbrev Inv-loop : tie.InvT-loop
-Inv-loop ws₀ from to spare kernel width height side t₀ y₀ ws t y =
-    Sweeping t₀ ws₀ from to spare kernel width height side y t ws
-
-abbrev μ-loop : tie.MeasureT-loop
-μ-loop ws₀ from to spare kernel width height side t₀ y₀ ws t y = height - y
-
-loop-holds : tie.Need-loop-holds Inv-loop μ-loop
-loop-holds c = let a = c .before .args in sweeping-none (a .tally) (a .ws .now) _ _ _ _ _ _ _ (c .before .pre)
-
-sub-strip-of : tie.Need-sub-strip-of Inv-loop μ-loop
-sub-strip-of c = omega arith
-
-strip-of-requires : tie.Need-strip-of-requires Inv-loop μ-loop
-strip-of-requires c κs = omega arith
-
--- what the next strip asks
-ready : (c : tie.After-strip-of Inv-loop μ-loop)
-    → let a = c .before .before .before .before .args in
-    let lp = c .before .before .loop in
-    SweepReady (lp .t) (lp .ws) (a .from + lp .y * a .width) (a .to + lp .y * a .width) (a .spare) (a .kernel) (a .width) (c .strip-of .result)
-ready c =
-    let start = c .before .before .before .before in
-    let a = start .args in
-    let lp = c .before .before .loop in
-    sweeping-ready (a .tally) (a .ws .now) _ _ _ _ _ _ (a .side) (start .pre) _ _ (lp .t) (lp .ws) (lp .inv) (omega arith)
-
-mul-at : tie.Need-mul-at Inv-loop μ-loop
-mul-at c = omega (arith, ready c .source)
-
-add-sweep-strip : tie.Need-add-sweep-strip Inv-loop μ-loop
-add-sweep-strip c = omega (arith, ready (c .before) .source)
-
-add-sweep-strip-2 : tie.Need-add-sweep-strip-2 Inv-loop μ-loop
-add-sweep-strip-2 c = omega (arith, ready (c .before) .target)
-
-sweep-strip-requires : tie.Need-sweep-strip-requires Inv-loop μ-loop
-sweep-strip-requires c κs = ready (c .before)
-
-add-y : tie.Need-add-y Inv-loop μ-loop
-add-y c =
-    let taken = c .before .before .before .before in
-    omega arith
-
-loop-less : tie.Need-loop-less Inv-loop μ-loop
-loop-less c =
-    let taken = c .before .before .before .before in
-    omega arith
-
-loop-again : tie.Need-loop-again Inv-loop μ-loop
-loop-again c =
-    let called = c .before .before in
-    let taken = called .before .before in
-    let lp = taken .before .before .loop in
-    let start = taken .before .before .before .before in
-    let a = start .args in
-    sweeping-more (a .tally) (a .ws .now) _ _ _ _ _ _ _ (start .pre) _ _ (lp .t) (lp .ws) (lp .inv) (omega arith) (called .sweep-strip .result) (called .sweep-strip .last .1 .0) (called .sweep-strip .ensures)
-
-same-length : tie.Need-same-length Inv-loop μ-loop
-same-length c = c .before .loop .inv .kept .long
-
-returns : tie.Need-returns Inv-loop μ-loop
-returns c =
-    let start = c .before .before .before in
-    let a = start .args in
-    sweeping-all (a .tally) (a .ws .now) _ _ _ _ _ _ _ (start .pre) _ (c .before .loop .t) (c .before .loop .ws) (c .before .loop .inv) (c .loop-test .left)
-
-pub sweep-rows-spec : {M : Type 1} → statement M
-sweep-rows-spec =
-    tie.close
-    (tie.spec
-    Inv-loop
-    μ-loop
-    loop-holds
-    sub-strip-of
-    strip-of-requires
-    mul-at
-    add-sweep-strip
-    add-sweep-strip-2
-    sweep-strip-requires
-    add-y
-    loop-less
-    loop-again
-    same-length
-    returns)
+pub sweep-rows-spec : {M : Type 1} → stated.statement M
+unfolding code.routine tablesOf
+sweep-rows-spec 𝓤 H 𝓜 𝓖 𝓡 =
+    entered 𝓤 H (tripleOf 𝓤 H (𝓖 .A) own.signature (own.spec 𝓤 H (𝓖 .A) (𝓜 .mem) (𝓡 .run)))
+    (tables 𝓤 H 𝓜 𝓡 code.env .C) (tables 𝓤 H 𝓜 𝓡 code.env .Λ) #own code.function (code.unfolded 𝓤 H 𝓜 𝓡)
+    (thin-meets Asks RowsSay 𝓤 H (𝓖 .A) (givenOf 𝓤 H 𝓜 𝓖) #core (tablesOf 𝓤 H 𝓜 (tables 𝓤 H 𝓜 𝓡 code.env))
+    (cited 𝓤 H (tripleOf 𝓤 H (𝓖 .A) core.signature (core.spec 𝓤 H (𝓖 .A) (𝓜 .mem) (𝓡 .run))) 𝓜 𝓡 code.env #core core-def.routine code.calls-imgproc·rect·row-core (core-thm.met 𝓤 H 𝓜 𝓖 𝓡)))

@@ -1,0 +1,54 @@
+-- `fill` meets its contract. Assumes nothing.
+use mathlib.Core.Path.{ap, _∙_}
+use mathlib.Core.List.{List}
+use Prim.Native.Nat.{ℕ}
+use native.Mathlib.Omega.{arith}
+use Rattle.image.specs.Plane.{overwritten}
+use Rattle.imgproc.proofs.surface.Tables.{thresholds-are, skips-are}
+use borrow.Author.Needs.{needs}
+use Rattle.imgproc.proofs.grid.fill.Statement.{statement}
+use Rattle.imgproc.proofs.grid.fill.Tie as tie
+
+gather-requires : tie.Need-gather-requires
+gather-requires c κs = search needs
+
+write-thresholds-requires : tie.Need-write-thresholds-requires
+write-thresholds-requires c κs = search needs
+
+write-skips-requires : tie.Need-write-skips-requires
+write-skips-requires c κs =
+    let g = c .before .before .before .before .before .before .before .before .before in
+    let s = g .before .before .before .before .before .before in (s .pre .1, record { picture = _; gathered = g .gather .ensures .gathered }, omega (arith, s .pre .2 .skips))
+
+same-length : tie.Need-same-length
+same-length c = search needs
+
+same-length-2 : tie.Need-same-length-2
+same-length-2 c = search needs
+
+same-length-3 : tie.Need-same-length-3
+same-length-3 c = search needs
+
+returns : tie.Need-returns
+returns c =
+    let g = c .before .before .before .before .before .before .before .before .before .before .before .before in
+    let s = g .before .before .before .before .before .before in
+    let a = s .args in
+    let G = g .gather .ensures .gathered in
+    record {
+      thresholds-left = c .before .before .before .before .before .before .before .write-thresholds .ensures ∙ ap (λ (p : List ℕ). overwritten 0 p (a .thresholds .now)) (thresholds-are (a .src .now) (a .geometry .stride) (a .config) (a .geometry .width) (a .geometry .height) 0 _ (s .pre .1) G);
+      skips-left = c .before .before .write-skips .ensures ∙ ap (λ (p : List ℕ). overwritten 0 p (a .skips .now)) (skips-are (a .src .now) (a .geometry .stride) (a .config) (a .geometry .width) (a .geometry .height) 0 _ (s .pre .1) G);
+      long = g .gather .ensures .long;
+    }
+
+pub fill-spec : {M : Type 1} → statement M
+fill-spec =
+    tie.close
+    (tie.spec
+    gather-requires
+    write-thresholds-requires
+    write-skips-requires
+    same-length
+    same-length-2
+    same-length-3
+    returns)

@@ -1,0 +1,3 @@
+-- Questions to a grid: what their checks give, and runs of skipped tiles. Assumes nothing.
+pub mod Grids
+pub mod Skipped

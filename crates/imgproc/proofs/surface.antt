@@ -1,0 +1,2 @@
+-- One byte for each tile: that the bytes are the picture's thresholds and skips. Assumes nothing.
+pub mod Tables

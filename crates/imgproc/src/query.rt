@@ -1,0 +1,123 @@
+// What a question to a grid needs: whether the grid is one, and where the bytes of a tile stand.
+use crate::Check;
+use crate::ImgProcError;
+use crate::grid::TileThresholdGrid;
+use crate::tiles;
+use image::LumaError;
+ghost use mathlib.Core.Path.{_≡_};
+ghost use Prim.Native.Nat.{_+_, _≤_};
+ghost use mathlib.Core.Bool.{_&&_};
+ghost use lib.Dec.{ltb};
+ghost use lib.ListN.{length};
+ghost use Rattle.imgproc.specs.GridCalls.{badSide, badGrid, queryCheck, pixelPlace, rowPlace, placeRefusal, allSkipped};
+
+// Where the byte of a tile stands.
+pub enum TilePlace {
+    At(usize),
+    Refused(ImgProcError),
+}
+
+fn bad_side(n: usize) -> bool
+    ensures { λ r. ⌜ r ≡ badSide n ⌝ }
+{
+    if n == 0 {
+        return true;
+    }
+    image::MAX_SIDE < n
+}
+
+// Whether a grid that somebody hands in is none.
+fn bad_grid(grid: TileThresholdGrid) -> bool
+    ensures { λ r. ⌜ r ≡ badGrid grid ⌝ }
+{
+    if bad_side(grid.width) {
+        return true;
+    }
+    if bad_side(grid.height) {
+        return true;
+    }
+    if grid.tile_width == 0 {
+        return true;
+    }
+    if grid.tile_height == 0 {
+        return true;
+    }
+    if grid.tiles_x != tiles::tiles(grid.width, grid.tile_width) {
+        return true;
+    }
+    grid.tiles_y != tiles::tiles(grid.height, grid.tile_height)
+}
+
+// Whether a question to a grid is taken: `inside` says whether its pixel or row lies in the picture.
+fn check_query(grid: TileThresholdGrid, len: usize, inside: bool) -> Check
+    ensures { λ r. ⌜ r ≡ queryCheck grid len inside ⌝ }
+{
+    if bad_grid(grid) {
+        return Check::Refused(ImgProcError::InvalidConfiguration);
+    }
+    if len < grid.tiles_x * grid.tiles_y {
+        return Check::Refused(ImgProcError::GridBufferTooSmall);
+    }
+    if inside {
+        Check::Accepted
+    } else {
+        Check::Refused(ImgProcError::Image(LumaError::OutsidePicture))
+    }
+}
+
+fn holds_pixel(grid: TileThresholdGrid, x: usize, y: usize) -> bool
+    ensures { λ r. ⌜ r ≡ (ltb x (grid .width) && ltb y (grid .height)) ⌝ }
+{
+    if x < grid.width {
+        y < grid.height
+    } else {
+        false
+    }
+}
+
+// Where the byte of the tile of pixel (x, y) stands, in a buffer of `len` bytes.
+pub(crate) fn pixel_place(grid: TileThresholdGrid, len: usize, x: usize, y: usize) -> TilePlace
+    ensures { λ r. ⌜ r ≡ pixelPlace grid len x y ⌝ }
+{
+    let check = check_query(grid, len, holds_pixel(grid, x, y));
+    if let Check::Refused(error) = check {
+        return TilePlace::Refused(error);
+    }
+    TilePlace::At(y / grid.tile_height * grid.tiles_x + x / grid.tile_width)
+}
+
+// Where the bytes of the tile row of y start.
+pub(crate) fn row_place(grid: TileThresholdGrid, len: usize, y: usize) -> TilePlace
+    ensures { λ r. ⌜ r ≡ rowPlace grid len y ⌝ }
+{
+    let check = check_query(grid, len, y < grid.height);
+    if let Check::Refused(error) = check {
+        return TilePlace::Refused(error);
+    }
+    TilePlace::At(y / grid.tile_height * grid.tiles_x)
+}
+
+// The refusal of a place.
+pub(crate) fn place_refusal(place: TilePlace) -> ImgProcError
+    ensures { λ r. ⌜ r ≡ placeRefusal place ⌝ }
+{
+    match place {
+        TilePlace::Refused(error) => error,
+        TilePlace::At(_) => ImgProcError::InvalidConfiguration,
+    }
+}
+
+// Whether the `n` bytes from `at` on are all skipped: each byte but 0 is.
+pub(crate) fn all_skipped(skips: &[u8], at: usize, n: usize) -> bool
+    requires { ⌜ at + n ≤ length (now skips) ⌝ }
+    ensures { λ r. ⌜ r ≡ allSkipped (now (skips .entry)) at n ⌝ }
+{
+    let mut i = 0;
+    while i < n {
+        if skips[at + i] == 0 {
+            return false;
+        }
+        i += 1;
+    }
+    true
+}

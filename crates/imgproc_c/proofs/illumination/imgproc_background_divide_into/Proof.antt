@@ -1,0 +1,31 @@
+-- The answer of the call, by number, and its count. Assumes nothing.
+use borrow.Author.Needs.{needs}
+use denote.Ref.{now}
+use Rattle.imgproc_c.specs.Operators.{division}
+use Rattle.imgproc_c.specs.Picture.{geometry}
+use Rattle.imgproc_c.proofs.OperatorNumbers.{divides}
+use Rattle.imgproc_c.proofs.illumination.imgproc_background_divide_into.Statement.{statement}
+use Rattle.imgproc_c.proofs.illumination.imgproc_background_divide_into.Tie as tie
+
+background-divide-into-requires : tie.Need-background-divide-into-requires
+background-divide-into-requires c κs = search needs
+
+counted-requires : tie.Need-counted-requires
+counted-requires c κs = search needs
+
+same-length : tie.Need-same-length
+same-length c = search needs
+
+same-length-2 : tie.Need-same-length-2
+same-length-2 c = search needs
+
+returns : tie.Need-returns
+returns c =
+    let p = c .before .before .before .before .before .before in
+    let a = p .before .before .before .before .before .before .args in
+    divides (c .counted .ensures) (now (a .src)) (geometry (a .src-width) (a .src-height) (a .src-stride)) (now (a .dst)) (geometry (a .dst-width) (a .dst-height) (a .dst-stride)) (now (a .workspace)) (division (a .structuring-element) (a .target-luma) (a .denominator-floor)) (p .background-divide-into .ensures)
+
+pub imgproc-background-divide-into-spec : {M : Type 1} → statement M
+imgproc-background-divide-into-spec =
+    tie.close
+    (tie.spec background-divide-into-requires counted-requires same-length same-length-2 returns)

@@ -1,0 +1,155 @@
+// Erosion, dilation, opening and closing.
+use crate::answers::counted;
+use image::Geometry;
+ghost use Rattle.imgproc.specs.Reach.{sweepWalks};
+ghost use Rattle.imgproc.specs.Morphology.{eroded, dilated, opened, closed};
+ghost use Rattle.imgproc_c.specs.Picture.{geometry};
+ghost use Rattle.imgproc_c.specs.Operators.{twoSweepWalks, AppliesNumber};
+
+#[no_mangle]
+pub extern "C" fn imgproc_grayscale_erode_into(
+    src: &[u8],
+    src_width: usize,
+    src_height: usize,
+    src_stride: usize,
+    dst: &mut [u8],
+    dst_width: usize,
+    dst_height: usize,
+    dst_stride: usize,
+    kernel_size: usize,
+    workspace: &mut [u8],
+    comparisons: &mut u64,
+) -> u32
+    ensures { λ r. ⌜ AppliesNumber eroded sweepWalks (now (src .entry)) (geometry «src_width» «src_height» «src_stride») (now (dst .entry)) (geometry «dst_width» «dst_height» «dst_stride») «kernel_size» (now (workspace .entry)) (now (comparisons .entry)) r (now (dst .exit)) (now (workspace .exit)) (now (comparisons .exit)) ⌝ }
+{
+    let source = Geometry {
+        width: src_width,
+        height: src_height,
+        stride: src_stride,
+    };
+    let target = Geometry {
+        width: dst_width,
+        height: dst_height,
+        stride: dst_stride,
+    };
+    let answer = imgproc::morphology::grayscale_erode_into(
+        src,
+        source,
+        dst,
+        target,
+        kernel_size,
+        workspace,
+    );
+    counted(answer, comparisons)
+}
+
+#[no_mangle]
+pub extern "C" fn imgproc_grayscale_dilate_into(
+    src: &[u8],
+    src_width: usize,
+    src_height: usize,
+    src_stride: usize,
+    dst: &mut [u8],
+    dst_width: usize,
+    dst_height: usize,
+    dst_stride: usize,
+    kernel_size: usize,
+    workspace: &mut [u8],
+    comparisons: &mut u64,
+) -> u32
+    ensures { λ r. ⌜ AppliesNumber dilated sweepWalks (now (src .entry)) (geometry «src_width» «src_height» «src_stride») (now (dst .entry)) (geometry «dst_width» «dst_height» «dst_stride») «kernel_size» (now (workspace .entry)) (now (comparisons .entry)) r (now (dst .exit)) (now (workspace .exit)) (now (comparisons .exit)) ⌝ }
+{
+    let source = Geometry {
+        width: src_width,
+        height: src_height,
+        stride: src_stride,
+    };
+    let target = Geometry {
+        width: dst_width,
+        height: dst_height,
+        stride: dst_stride,
+    };
+    let answer = imgproc::morphology::grayscale_dilate_into(
+        src,
+        source,
+        dst,
+        target,
+        kernel_size,
+        workspace,
+    );
+    counted(answer, comparisons)
+}
+
+#[no_mangle]
+pub extern "C" fn imgproc_grayscale_open_into(
+    src: &[u8],
+    src_width: usize,
+    src_height: usize,
+    src_stride: usize,
+    dst: &mut [u8],
+    dst_width: usize,
+    dst_height: usize,
+    dst_stride: usize,
+    kernel_size: usize,
+    workspace: &mut [u8],
+    comparisons: &mut u64,
+) -> u32
+    ensures { λ r. ⌜ AppliesNumber opened twoSweepWalks (now (src .entry)) (geometry «src_width» «src_height» «src_stride») (now (dst .entry)) (geometry «dst_width» «dst_height» «dst_stride») «kernel_size» (now (workspace .entry)) (now (comparisons .entry)) r (now (dst .exit)) (now (workspace .exit)) (now (comparisons .exit)) ⌝ }
+{
+    let source = Geometry {
+        width: src_width,
+        height: src_height,
+        stride: src_stride,
+    };
+    let target = Geometry {
+        width: dst_width,
+        height: dst_height,
+        stride: dst_stride,
+    };
+    let answer = imgproc::morphology::grayscale_open_into(
+        src,
+        source,
+        dst,
+        target,
+        kernel_size,
+        workspace,
+    );
+    counted(answer, comparisons)
+}
+
+#[no_mangle]
+pub extern "C" fn imgproc_grayscale_close_into(
+    src: &[u8],
+    src_width: usize,
+    src_height: usize,
+    src_stride: usize,
+    dst: &mut [u8],
+    dst_width: usize,
+    dst_height: usize,
+    dst_stride: usize,
+    kernel_size: usize,
+    workspace: &mut [u8],
+    comparisons: &mut u64,
+) -> u32
+    ensures { λ r. ⌜ AppliesNumber closed twoSweepWalks (now (src .entry)) (geometry «src_width» «src_height» «src_stride») (now (dst .entry)) (geometry «dst_width» «dst_height» «dst_stride») «kernel_size» (now (workspace .entry)) (now (comparisons .entry)) r (now (dst .exit)) (now (workspace .exit)) (now (comparisons .exit)) ⌝ }
+{
+    let source = Geometry {
+        width: src_width,
+        height: src_height,
+        stride: src_stride,
+    };
+    let target = Geometry {
+        width: dst_width,
+        height: dst_height,
+        stride: dst_stride,
+    };
+    let answer = imgproc::morphology::grayscale_close_into(
+        src,
+        source,
+        dst,
+        target,
+        kernel_size,
+        workspace,
+    );
+    counted(answer, comparisons)
+}
