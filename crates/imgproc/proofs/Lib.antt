@@ -16,3 +16,7 @@ pub mod VerdictLaws
 pub mod Answers
 pub mod Folds
 pub mod Writes
+pub mod Judging
+pub mod ReadingRuns
+pub mod ReadingDone
+pub mod ReadingWays

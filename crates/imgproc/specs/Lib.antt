@@ -23,7 +23,10 @@ pub mod Tiles
 pub mod GridLaws
 pub mod Surface
 pub mod GridCalls
+pub mod Reading
+pub mod ReadingLaws
 pub mod Cases
 pub mod PicturesSauvola
 pub mod PicturesGrid
+pub mod PicturesReading
 pub mod Pictures

@@ -13,6 +13,8 @@ use Rattle.imgproc.specs.Grid.{thresholds, skips}
 use Rattle.imgproc.specs.GridCalls.{badGrid, allSkipped}
 use Rattle.imgproc.specs.PicturesSauvola.{sauvolaPictures}
 use Rattle.imgproc.specs.PicturesGrid.{gridPictures}
+use Rattle.imgproc.specs.PicturesReading.{readingPictures}
+use Rattle.imgproc.specs.Reading.{readingOf, marked}
 use Rattle.imgproc.specs.Morphology.{sweptRect, eroded, dilated, opened, closed}
 
 -- ★ part 2, with pictures of our own for columns, both axes and borders
@@ -49,6 +51,6 @@ divisionPictures =
     11 ∷ 222 ∷ 50 ∷ 100 ∷ 100 ∷ 5 ∷ 200 ∷ 13 ∷ 255 ∷ 44 ∷ 0 ∷ 200 ∷ 3 ∷ 200 ∷ 171 ∷ 51 ∷ []) ∷
     []
 
-pub pictures-hold : wrong 1 (morphologyPictures ++ (divisionPictures ++ (sauvolaPictures ++ gridPictures))) ≡ []
-unfolding morphologyPictures divisionPictures sauvolaPictures gridPictures thresholds skips ofBits lt badGrid allSkipped sweptRect walk R divided thresholdAt binarised packed painted
+pub pictures-hold : wrong 1 (morphologyPictures ++ (divisionPictures ++ (sauvolaPictures ++ (gridPictures ++ readingPictures)))) ≡ []
+unfolding readingPictures readingOf marked morphologyPictures divisionPictures sauvolaPictures gridPictures thresholds skips ofBits lt badGrid allSkipped sweptRect walk R divided thresholdAt binarised packed painted
 pictures-hold = refl

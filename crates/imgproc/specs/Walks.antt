@@ -29,7 +29,7 @@ pub place : (k i : ℕ) → 0 < k → (k * (i / k) + i % k ≡ i) × (i % k < k)
 place k i p = (div-add-mod i k, mod-lt i p)
 
 -- walks of tests that agree below n
-same-walk : (p q : ℕ → Bool) (n : ℕ) → ((i : ℕ) → i < n → p i ≡ q i) → walk p n ≡ walk q n
+pub same-walk : (p q : ℕ → Bool) (n : ℕ) → ((i : ℕ) → i < n → p i ≡ q i) → walk p n ≡ walk q n
 unfolding walk
 same-walk p q zero h = refl
 same-walk p q (suc n) h =

@@ -4,6 +4,7 @@ pub mod grid;
 pub mod illumination;
 pub mod morphology;
 mod query;
+pub mod reading;
 mod rect;
 pub mod root;
 mod surface;

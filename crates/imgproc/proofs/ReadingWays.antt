@@ -1,0 +1,115 @@
+-- What accepted settings and room of a reading say, and its contract by the way out. Assumes nothing.
+use mathlib.Core.Path.{_≡_, refl, sym, ap, _∙_, subst}
+use mathlib.Core.Bool.{Bool, _||_}
+use mathlib.Core.List.{List}
+use Prim.Native.Nat.{ℕ, _+_, _*_, _%_, _≤_, _<_}
+use native.Mathlib.Nat.{mul-le-mul}
+use native.Mathlib.Omega.{arith}
+use lib.Dec.{ltb, eqb}
+use lib.ListN.{length}
+use borrow.Author.Tests.{lt-ltb, le-ltb, ltb-false}
+use Rattle.image.specs.declared.Geometry.{Geometry}
+use Rattle.imgproc.specs.declared.reading.ReadingConfig.{ReadingConfig}
+use Rattle.imgproc.specs.declared.reading.ReadingCounts.{ReadingCounts}
+use Rattle.imgproc.specs.declared.reading.Read.the-variants.{Counts, Refused as Read·Refused}
+use Rattle.imgproc.specs.declared.ImgProcError.{ImgProcError}
+use Rattle.imgproc.specs.declared.ImgProcError.the-variants.{InvalidKernel, WorkspaceTooSmall}
+use Rattle.imgproc.specs.declared.Check.{Check}
+use Rattle.imgproc.specs.declared.Check.the-variants.{Accepted, Refused}
+use Rattle.imgproc.specs.Refusals.{_then_, refusedIf, badKernel, divisionSettings, sauvolaSettings, tableEntries}
+use Rattle.imgproc.specs.GridCalls.{gridSettingsCheck, tileCount}
+use Rattle.imgproc.specs.GridLaws.{ceiling-small}
+use Rattle.imgproc.specs.Tables.{InRange}
+use Rattle.imgproc.specs.Tiles.{Sized}
+use Rattle.imgproc.specs.Reading.{readingSettings, readingRoom, readingCheck, Reads, ReadDone}
+use Rattle.imgproc.proofs.CheckLaws.{both-accepted, not-refused, neither}
+use Rattle.imgproc.proofs.DivisionRuns.{settings-say}
+use Rattle.imgproc.proofs.Answers.{in-range}
+use Rattle.imgproc.proofs.grid.Ways.{sides-taken}
+
+-- what accepted settings say
+pub record Says (s : ReadingConfig) : Type 0 where
+  pub element : 0 < s .division .«structuring_element»
+  pub floor : 0 < s .division .«denominator_floor»
+  pub kernel : 0 < s .«opening_kernel»
+  pub tile-width : 0 < s .grid .«tile_width»
+  pub tile-height : 0 < s .grid .«tile_height»
+  pub settings : InRange (s .sauvola)
+
+pub says : (s : ReadingConfig) → readingSettings s ≡ Accepted → Says s
+says s p =
+    let a = both-accepted (divisionSettings (s .division)) (refusedIf (badKernel (s .«opening_kernel»)) InvalidKernel then (gridSettingsCheck (s .grid) then sauvolaSettings (s .sauvola))) p in
+    let b = both-accepted (refusedIf (badKernel (s .«opening_kernel»)) InvalidKernel) (gridSettingsCheck (s .grid) then sauvolaSettings (s .sauvola)) (a .1) in
+    let c = both-accepted (gridSettingsCheck (s .grid)) (sauvolaSettings (s .sauvola)) (b .1) in
+    let d = settings-say (s .division) (a .0) in
+    let k = neither (ltb (s .«opening_kernel») 3) (eqb (s .«opening_kernel» % 2) 0) (not-refused (badKernel (s .«opening_kernel»)) InvalidKernel (b .0)) in
+    let t = sides-taken (s .grid) (c .0) in
+    record {
+      element = omega (arith, d .0);
+      floor = d .1;
+      kernel = omega (arith, ltb-false (s .«opening_kernel») 3 (k .0));
+      tile-width = t .0;
+      tile-height = t .1;
+      settings = in-range (s .sauvola) (c .1);
+    }
+
+-- ---- the workspaces
+module _ (g : Geometry) (s : ReadingConfig) (z : Sized (s .grid) (g .width) (g .height)) where
+  pub tiles-small : tileCount (s .grid) (g .width) (g .height) ≤ 16777216
+  tiles-small =
+      let across = ceiling-small (g .width) (s .grid .«tile_width») (z .tile-width) in
+      let down = ceiling-small (g .height) (s .grid .«tile_height») (z .tile-height) in
+      mul-le-mul {n₂ = 4096} {m₂ = 4096} (omega (arith, z .small-width)) (omega (arith, z .small-height))
+
+  pub area-small : g .width * g .height ≤ 16777216
+  area-small = mul-le-mul (z .small-width) (z .small-height)
+
+  pub entries-small : (g .width + 1) * (g .height + 1) ≤ 16785409
+  entries-small = mul-le-mul {n₂ = 4097} {m₂ = 4097} (omega (arith, z .small-width)) (omega (arith, z .small-height))
+
+module _ (g : Geometry) (s : ReadingConfig) (bytes words t : ℕ) (is : t ≡ tileCount (s .grid) (g .width) (g .height)) where
+  pub bytes-short : bytes < 9 * (g .width * g .height) + 2 * t → Refused WorkspaceTooSmall ≡ readingRoom g s bytes words
+  bytes-short l = simp (lt-ltb bytes (9 * (g .width * g .height) + 2 * tileCount (s .grid) (g .width) (g .height)) (rw is at l))
+
+  module _ (b : 9 * (g .width * g .height) + 2 * t ≤ bytes) where
+    pub words-short : words < 2 * ((g .width + 1) * (g .height + 1)) + 5 * t → Refused WorkspaceTooSmall ≡ readingRoom g s bytes words
+    words-short l =
+        simp (
+          le-ltb bytes (9 * (g .width * g .height) + 2 * tileCount (s .grid) (g .width) (g .height)) (rw is at b),
+          lt-ltb words (tableEntries (g .width) (g .height) + 5 * tileCount (s .grid) (g .width) (g .height)) (rw is at l),
+        )
+
+    pub room-enough : 2 * ((g .width + 1) * (g .height + 1)) + 5 * t ≤ words → Accepted ≡ readingRoom g s bytes words
+    room-enough l =
+        simp (
+          le-ltb bytes (9 * (g .width * g .height) + 2 * tileCount (s .grid) (g .width) (g .height)) (rw is at b),
+          le-ltb words (tableEntries (g .width) (g .height) + 5 * tileCount (s .grid) (g .width) (g .height)) (rw is at l),
+        )
+
+pub room-says : (g : Geometry) (s : ReadingConfig) (bytes words : ℕ) → readingRoom g s bytes words ≡ Accepted → (9 * (g .width * g .height) + 2 * tileCount (s .grid) (g .width) (g .height) ≤ bytes) × (tableEntries (g .width) (g .height) + 5 * tileCount (s .grid) (g .width) (g .height) ≤ words)
+room-says g s bytes words p =
+    let a = ltb bytes (9 * (g .width * g .height) + 2 * tileCount (s .grid) (g .width) (g .height)) in
+    let b = ltb words (tableEntries (g .width) (g .height) + 5 * tileCount (s .grid) (g .width) (g .height)) in
+    let n = neither a b (not-refused (a || b) WorkspaceTooSmall p) in (
+      ltb-false bytes (9 * (g .width * g .height) + 2 * tileCount (s .grid) (g .width) (g .height)) (n .0),
+      ltb-false words (tableEntries (g .width) (g .height) + 5 * tileCount (s .grid) (g .width) (g .height)) (n .1),
+    )
+
+-- ---- the contract
+module _ (src : List ℕ) (g : Geometry) (dst : List ℕ) (t : Geometry) (s : ReadingConfig) (bytes words : List ℕ) where
+  -- of a refused call
+  pub refused : (e : ImgProcError) → readingCheck (length src) g (length dst) t s (length bytes) (length words) ≡ Refused e → Reads src g dst t s bytes words (Read·Refused e) dst bytes words
+  refused e c = record { answers = rw c; leaves = rw c; bytes-left = rw c refl; words-left = rw c refl }
+
+  -- of an accepted one
+  pub done :
+      {r : ReadingCounts} {dst′ bytes′ words′ : List ℕ} {u v : Geometry}
+      → u ≡ g
+      → v ≡ t
+      → readingCheck (length src) g (length dst) t s (length bytes) (length words) ≡ Accepted
+      → ReadDone src u dst v s bytes words r dst′ bytes′ words′
+      → Reads src g dst t s bytes words (Counts r) dst′ bytes′ words′
+  done {r} {dst′} {bytes′} {words′} {u} {v} p q c d =
+      let d′ : ReadDone src g dst t s bytes words r dst′ bytes′ words′ =
+      subst (λ (k : Geometry). ReadDone src k dst t s bytes words r dst′ bytes′ words′) p (subst (λ (k : Geometry). ReadDone src u dst k s bytes words r dst′ bytes′ words′) q d) in
+      record { answers = rw c (ap Counts (d′ .counted)); leaves = rw c (d′ .leaves); bytes-left = rw c (d′ .bytes-long); words-left = rw c (d′ .words-long) }

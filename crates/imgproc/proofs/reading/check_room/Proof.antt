@@ -1,0 +1,84 @@
+-- The two workspaces: each way out is one law, and nothing wraps. Assumes nothing.
+use borrow.Author.Needs.{needs}
+use native.Mathlib.Omega.{arith}
+use Prim.Native.Nat.{ℕ, _*_}
+use mathlib.Core.Path.{_≡_, ap₂}
+use Rattle.imgproc.specs.GridCalls.{tileCount}
+use Rattle.imgproc.proofs.ReadingWays.{tiles-small, area-small, entries-small, bytes-short, words-short, room-enough}
+use Rattle.imgproc.proofs.reading.check_room.Statement.{statement}
+use Rattle.imgproc.proofs.reading.check_room.Tie as tie
+
+abbrev start : tie.After-tiles2 → tie.Start
+start t = t .before .before .before
+
+count : (t : tie.After-tiles2) → t .before .tiles .result * t .tiles2 .result ≡ tileCount (start t .args .config .grid) (start t .args .geometry .width) (start t .args .geometry .height)
+count t = ap₂ (λ (x y : ℕ). x * y) (t .before .tiles .ensures) (t .tiles2 .ensures)
+
+tiles-requires : tie.Need-tiles-requires
+tiles-requires c κs = search needs
+
+tiles-requires-2 : tie.Need-tiles-requires-2
+tiles-requires-2 c κs = search needs
+
+mul-count : tie.Need-mul-count
+mul-count t = omega (arith, count t, tiles-small (start t .args .geometry) (start t .args .config) (start t .pre))
+
+mul-if1 : tie.Need-mul-if1
+mul-if1 t = omega (arith, area-small (start t .args .geometry) (start t .args .config) (start t .pre))
+
+mul-if1-2 : tie.Need-mul-if1-2
+mul-if1-2 t = omega (arith, area-small (start t .args .geometry) (start t .args .config) (start t .pre))
+
+mul-if1-3 : tie.Need-mul-if1-3
+mul-if1-3 t = omega (arith, count t, tiles-small (start t .args .geometry) (start t .args .config) (start t .pre))
+
+add-if1 : tie.Need-add-if1
+add-if1 t = omega (arith, count t, tiles-small (start t .args .geometry) (start t .args .config) (start t .pre), area-small (start t .args .geometry) (start t .args .config) (start t .pre))
+
+returns : tie.Need-returns
+returns c = let t = c .before in bytes-short (start t .args .geometry) (start t .args .config) _ _ _ (count t) (c .if1 .taken)
+
+add-if2 : tie.Need-add-if2
+add-if2 c = search needs
+
+add-if2-2 : tie.Need-add-if2-2
+add-if2-2 c = search needs
+
+mul-if2 : tie.Need-mul-if2
+mul-if2 c = let t = c .before in omega (arith, entries-small (start t .args .geometry) (start t .args .config) (start t .pre))
+
+mul-if2-2 : tie.Need-mul-if2-2
+mul-if2-2 c = let t = c .before in omega (arith, entries-small (start t .args .geometry) (start t .args .config) (start t .pre))
+
+mul-if2-3 : tie.Need-mul-if2-3
+mul-if2-3 c = let t = c .before in omega (arith, count t, tiles-small (start t .args .geometry) (start t .args .config) (start t .pre))
+
+add-if2-3 : tie.Need-add-if2-3
+add-if2-3 c = let t = c .before in omega (arith, count t, tiles-small (start t .args .geometry) (start t .args .config) (start t .pre), entries-small (start t .args .geometry) (start t .args .config) (start t .pre))
+
+returns-2 : tie.Need-returns-2
+returns-2 c = let t = c .before .before in words-short (start t .args .geometry) (start t .args .config) _ _ _ (count t) (c .before .if1 .left) (c .if2 .taken)
+
+returns-3 : tie.Need-returns-3
+returns-3 c = let t = c .before .before in room-enough (start t .args .geometry) (start t .args .config) _ _ _ (count t) (c .before .if1 .left) (c .if2 .left)
+
+pub check-room-spec : {M : Type 1} → statement M
+check-room-spec =
+    tie.close
+    (tie.spec
+    tiles-requires
+    tiles-requires-2
+    mul-count
+    mul-if1
+    mul-if1-2
+    mul-if1-3
+    add-if1
+    returns
+    add-if2
+    add-if2-2
+    mul-if2
+    mul-if2-2
+    mul-if2-3
+    add-if2-3
+    returns-2
+    returns-3)

@@ -1,0 +1,343 @@
+// The reading: a picture flattened and opened, its low-contrast tiles skipped, and every other pixel judged by its threshold.
+use crate::Check;
+use crate::ImgProcError;
+use crate::grid::TileThresholdConfig;
+use crate::illumination::BackgroundDivideConfig;
+use crate::illumination::flatten;
+use crate::rect::open_rect_into;
+use crate::surface;
+use crate::tables::build_tables;
+use crate::tally::Tally;
+use crate::tally::comparisons;
+use crate::tally::start;
+use crate::threshold::SauvolaConfig;
+use crate::threshold::threshold_at_pixel;
+use crate::tiles;
+use image::Geometry;
+use image::Layout;
+ghost use mathlib.Core.Path.{_≡_};
+ghost use Prim.Native.Nat.{ℕ, _+_, _*_, _≤_, _<_};
+ghost use lib.ListN.{length, getD};
+ghost use Rattle.image.specs.Layout.{Kept};
+ghost use Rattle.image.specs.Plane.{part};
+ghost use Rattle.imgproc.specs.Tiles.{Sized};
+ghost use Rattle.imgproc.specs.Reading.{ReadReady, ReadDone, Reads, readingSettings, readingRoom, JudgeRoom, OpenReady, Opened, MarkReady, Marks, JudgeReady, judgedOver, Room, RowJudged, PictureJudged};
+
+pub struct ReadingConfig {
+    pub division: BackgroundDivideConfig,
+    pub opening_kernel: usize,
+    pub grid: TileThresholdConfig,
+    pub sauvola: SauvolaConfig,
+}
+
+pub struct ReadingCounts {
+    pub dark: u64,
+    pub light: u64,
+    pub skipped: u64,
+    pub comparisons: u64,
+}
+
+// The four counts of a reading, or its refusal.
+pub enum Read {
+    Counts(ReadingCounts),
+    Refused(ImgProcError),
+}
+
+// What a pixel is judged.
+pub enum Judgement {
+    Dark,
+    Light,
+    Skipped,
+}
+
+// The judgement of pixel (x, y) of the opened picture, whose tables stand in the u64 workspace.
+fn judge(
+    opened: &[u8],
+    packed: Geometry,
+    skips: &[u8],
+    workspace: &[u64],
+    at: usize,
+    config: ReadingConfig,
+    x: usize,
+    y: usize,
+) -> Judgement
+    requires { ⌜ JudgeReady (now opened) packed (now skips) (now workspace) at config × ((x < packed .width) × (y < packed .height)) ⌝ }
+    ensures { λ r. ⌜ r ≡ judgedOver config (packed .width) (packed .height) (now (opened .entry)) x y ⌝ }
+{
+    let grid = config.grid;
+    let tiles_x = tiles::tiles(packed.width, grid.tile_width);
+    let tile = y / grid.tile_height * tiles_x + x / grid.tile_width;
+    if skips[tile] != 0 {
+        return Judgement::Skipped;
+    }
+    let threshold = threshold_at_pixel(opened, packed, workspace, at, config.sauvola, x, y);
+    let place = y * packed.width + x;
+    if opened[place] as u64 <= threshold {
+        Judgement::Dark
+    } else {
+        Judgement::Light
+    }
+}
+
+// How many pixels were judged what.
+pub struct Judged {
+    pub dark: u64,
+    pub light: u64,
+    pub skipped: u64,
+}
+
+// Row y of the destination, judged pixel by pixel and counted.
+fn judge_row(
+    judged: Judged,
+    opened: &[u8],
+    packed: Geometry,
+    skips: &[u8],
+    workspace: &[u64],
+    at: usize,
+    config: ReadingConfig,
+    y: usize,
+    out: &mut [u8],
+) -> Judged
+    requires { ⌜ JudgeReady (now opened) packed (now skips) (now workspace) at config × ((y < packed .height) × ((length (now out) ≡ packed .width) × Room judged (packed .width))) ⌝ }
+    ensures { λ r. ⌜ RowJudged judged config packed (now (opened .entry)) y r (now (out .exit)) ⌝ }
+{
+    let sauvola = config.sauvola;
+    let mut counts = judged;
+    let mut next = 0;
+    while next < packed.width {
+        let x = next;
+        next += 1;
+        let judgement = judge(opened, packed, skips, workspace, at, config, x, y);
+        match judgement {
+            Judgement::Dark => {
+                counts.dark += 1;
+                out[x] = sauvola.dark_value;
+            }
+            Judgement::Light => {
+                counts.light += 1;
+                out[x] = sauvola.light_value;
+            }
+            Judgement::Skipped => {
+                counts.skipped += 1;
+                out[x] = sauvola.light_value;
+            }
+        }
+    }
+    counts
+}
+
+// Every pixel of the opened picture judged and counted, row by row into the destination.
+fn judge_rows(
+    opened: &[u8],
+    packed: Geometry,
+    skips: &[u8],
+    workspace: &[u64],
+    at: usize,
+    config: ReadingConfig,
+    dst: &mut [u8],
+    dst_geometry: Geometry,
+) -> Judged
+    requires { ⌜ JudgeReady (now opened) packed (now skips) (now workspace) at config ⌝ }
+    requires { ⌜ Kept (length (now dst)) «dst_geometry» × ((«dst_geometry» .width ≡ packed .width) × («dst_geometry» .height ≡ packed .height)) ⌝ }
+    ensures { λ r. ⌜ PictureJudged config packed (now (opened .entry)) (now (dst .entry)) («dst_geometry» .stride) r (now (dst .exit)) ⌝ }
+{
+    let mut counts = Judged {
+        dark: 0,
+        light: 0,
+        skipped: 0,
+    };
+    let mut y = 0;
+    while y < packed.height {
+        let from = y * dst_geometry.stride;
+        let to = from + packed.width;
+        counts = judge_row(
+            counts,
+            opened,
+            packed,
+            skips,
+            workspace,
+            at,
+            config,
+            y,
+            &mut dst[from..to],
+        );
+        y += 1;
+    }
+    counts
+}
+
+// The picture flattened in the second plane of the workspace, and opened into the first.
+fn flatten_and_open(
+    tally: Tally,
+    src: &[u8],
+    geometry: Geometry,
+    config: ReadingConfig,
+    bytes: &mut [u8],
+) -> Tally
+    requires { ⌜ OpenReady tally (now src) geometry config (now bytes) ⌝ }
+    ensures { λ r. ⌜ Opened tally (now (src .entry)) geometry config (now (bytes .entry)) r (now (bytes .exit)) ⌝ }
+{
+    let width = geometry.width;
+    let height = geometry.height;
+    let plane = width * height;
+    let spare = 2 * plane;
+    let kernel = config.opening_kernel;
+    let division = config.division;
+    let raised = flatten(tally, src, geometry, division, bytes);
+    open_rect_into(raised, bytes, plane, 0, spare, kernel, width, height)
+}
+
+// The skips of the opened picture's tiles, after nine planes of the workspace.
+fn mark_tiles(packed: Geometry, config: ReadingConfig, bytes: &mut [u8], words: &mut [u64])
+    requires { ⌜ MarkReady packed config (now bytes) (now words) ⌝ }
+    ensures { λ _. ⌜ Marks packed config (now (bytes .entry)) (now (words .entry)) (now (bytes .exit)) (now (words .exit)) ⌝ }
+{
+    let width = packed.width;
+    let height = packed.height;
+    let plane = width * height;
+    let grid = config.grid;
+    tiles::gather(&bytes[..plane], packed, grid, words, 0);
+    surface::write_skips(words, 0, width, height, grid, bytes, 9 * plane);
+}
+
+// The judgements, once the opened picture and its marks stand in the workspaces.
+fn judge_picture(
+    packed: Geometry,
+    config: ReadingConfig,
+    bytes: &[u8],
+    words: &mut [u64],
+    dst: &mut [u8],
+    dst_geometry: Geometry,
+) -> Judged
+    requires { ⌜ JudgeRoom packed config (now bytes) (now words) ⌝ }
+    requires { ⌜ Kept (length (now dst)) «dst_geometry» × ((«dst_geometry» .width ≡ packed .width) × («dst_geometry» .height ≡ packed .height)) ⌝ }
+    ensures { λ r. ⌜ PictureJudged config packed (part 0 (packed .width * packed .height) (now (bytes .entry))) (now (dst .entry)) («dst_geometry» .stride) r (now (dst .exit)) ⌝ }
+{
+    let plane = packed.width * packed.height;
+    let grid = config.grid;
+    let count = tiles::tiles(packed.width, grid.tile_width)
+        * tiles::tiles(packed.height, grid.tile_height);
+    let marks = 9 * plane;
+    let end = marks + count;
+    build_tables(&bytes[..plane], packed, words, 0);
+    judge_rows(
+        &bytes[..plane],
+        packed,
+        &bytes[marks..end],
+        words,
+        0,
+        config,
+        dst,
+        dst_geometry,
+    )
+}
+
+// The work of an accepted reading: one tally, started at 0, through the closing and the opening, and read out.
+fn read_picture(
+    src: &[u8],
+    src_geometry: Geometry,
+    dst: &mut [u8],
+    dst_geometry: Geometry,
+    config: ReadingConfig,
+    bytes: &mut [u8],
+    words: &mut [u64],
+) -> ReadingCounts
+    requires { ⌜ ReadReady (now src) «src_geometry» (now dst) «dst_geometry» config (now bytes) (now words) ⌝ }
+    ensures { λ r. ⌜ ReadDone (now (src .entry)) «src_geometry» (now (dst .entry)) «dst_geometry» config (now (bytes .entry)) (now (words .entry)) r (now (dst .exit)) (now (bytes .exit)) (now (words .exit)) ⌝ }
+{
+    let packed = Geometry {
+        width: src_geometry.width,
+        height: src_geometry.height,
+        stride: src_geometry.width,
+    };
+    let tally = flatten_and_open(start(), src, src_geometry, config, bytes);
+    mark_tiles(packed, config, bytes, words);
+    let judged = judge_picture(packed, config, bytes, words, dst, dst_geometry);
+    ReadingCounts {
+        dark: judged.dark,
+        light: judged.light,
+        skipped: judged.skipped,
+        comparisons: comparisons(tally),
+    }
+}
+
+// Whether the settings are in range: the division's, the opening's kernel, the grid's, the threshold's.
+pub(crate) fn check_settings(config: ReadingConfig) -> Check
+    ensures { λ r. ⌜ r ≡ readingSettings config ⌝ }
+{
+    let division = crate::illumination::check_settings(config.division);
+    let Check::Accepted = division else {
+        return division;
+    };
+    if config.opening_kernel < 3 {
+        return Check::Refused(ImgProcError::InvalidKernel);
+    }
+    if config.opening_kernel % 2 == 0 {
+        return Check::Refused(ImgProcError::InvalidKernel);
+    }
+    let grid = crate::grid::check_settings(config.grid);
+    let Check::Accepted = grid else {
+        return grid;
+    };
+    crate::threshold::check_settings(config.sauvola)
+}
+
+// Whether both workspaces hold a reading of the picture.
+pub(crate) fn check_room(
+    geometry: Geometry,
+    config: ReadingConfig,
+    bytes: usize,
+    words: usize,
+) -> Check
+    requires { ⌜ Sized (config .grid) (geometry .width) (geometry .height) ⌝ }
+    ensures { λ r. ⌜ r ≡ readingRoom geometry config bytes words ⌝ }
+{
+    let grid = config.grid;
+    let width = geometry.width;
+    let height = geometry.height;
+    let count = tiles::tiles(width, grid.tile_width) * tiles::tiles(height, grid.tile_height);
+    if bytes < 9 * (width * height) + 2 * count {
+        return Check::Refused(ImgProcError::WorkspaceTooSmall);
+    }
+    if words < 2 * ((width + 1) * (height + 1)) + 5 * count {
+        return Check::Refused(ImgProcError::WorkspaceTooSmall);
+    }
+    Check::Accepted
+}
+
+// Reads a picture: judges every pixel, marks the rows of the destination and counts.
+pub fn reading(
+    src: &[u8],
+    src_geometry: Geometry,
+    dst: &mut [u8],
+    dst_geometry: Geometry,
+    config: ReadingConfig,
+    bytes: &mut [u8],
+    words: &mut [u64],
+) -> Read
+    ensures { λ r. ⌜ Reads (now (src .entry)) «src_geometry» (now (dst .entry)) «dst_geometry» config (now (bytes .entry)) (now (words .entry)) r (now (dst .exit)) (now (bytes .exit)) (now (words .exit)) ⌝ }
+{
+    let layout = image::validate_layout(src.len(), src_geometry);
+    let Layout::Valid(g) = layout else {
+        return Read::Refused(ImgProcError::Image(image::refusal(layout)));
+    };
+    let target = image::validate_layout(dst.len(), dst_geometry);
+    let Layout::Valid(h) = target else {
+        return Read::Refused(ImgProcError::Image(image::refusal(target)));
+    };
+    if g.width != h.width {
+        return Read::Refused(ImgProcError::DimensionMismatch);
+    }
+    if g.height != h.height {
+        return Read::Refused(ImgProcError::DimensionMismatch);
+    }
+    let settings = check_settings(config);
+    if let Check::Refused(error) = settings {
+        return Read::Refused(error);
+    }
+    let room = check_room(g, config, bytes.len(), words.len());
+    if let Check::Refused(error) = room {
+        return Read::Refused(error);
+    }
+    Read::Counts(read_picture(src, g, dst, h, config, bytes, words))
+}
