@@ -4,9 +4,9 @@
  * A picture is a range of bytes with a width, a height and a stride: pixel (x, y) is the byte at y * stride + x. The
  * range needs stride * (height - 1) + width bytes; the last row needs no padding. Sides run from 1 to 4096.
  *
- * Every call answers a number: 0 when it did its work, else why it was turned back. A refused call changes nothing: no
- * lent byte, no workspace, no number behind a pointer. The first reason that fits, in the order given for each call,
- * is the one that is answered.
+ * Every call but imgproc_root, which is never refused, answers a number: 0 when it did its work, else why it was
+ * turned back. A refused call changes nothing: no lent byte, no workspace, no number behind a pointer. The first
+ * reason that fits, in the order given for each call, is the one that is answered.
  *
  *    1  a side is zero
  *    2  the stride is below the width
@@ -17,10 +17,11 @@
  *    7  a setting is out of range
  *    8  the range to copy to, or the workspace, is too short
  *    9  the pixel or row lies outside the picture
+ *   10  a buffer of thresholds or skips is too short
  *
  * "Layout" below means 1, 2, 3 and 4, in this order. Lengths are exact: no product of stride and height wraps.
- * Where a call takes both src and dst, its workspace is room to work in: what it held before does not matter, and what
- * an accepted call leaves there is not promised.
+ * Where a call takes both src and dst, or builds a grid, its workspace is room to work in: what it held before does
+ * not matter, and what an accepted call leaves there is not promised.
  *
  * What the caller has to see to, and no proof can:
  *  - Each pointer is valid for its length: that many bytes (or numbers) may be read there, and written where the
@@ -127,6 +128,46 @@ uint32_t imgproc_sauvola_into(const uint8_t *src, size_t src_len,
                               size_t radius, uint32_t k_milli, uint32_t dynamic_range,
                               uint8_t dark_value, uint8_t light_value,
                               uint64_t *workspace, size_t workspace_len);
+
+/* Cuts the picture into tiles and writes one threshold and one skip byte (0 or 1) for each, tile row by tile row, to
+   the first t bytes of thresholds and of skips; later bytes stay. *tiles_x is width / tile_width, rounded up, *tiles_y
+   likewise, t their product. The pixels of all tiles within neighborhood_radius on both axes give minimum, maximum,
+   sum S, sum of squares Q and count c. A tile is skipped where maximum - minimum is below contrast_floor. With method
+   0 the base of its threshold is (minimum + maximum) / 2, rounded down; k and dynamic_range are not looked at. With
+   method 1, each step rounded once to a double: mean = S / c, variance = Q / c - mean * mean, 0 where below 0,
+   value = mean * (1 + k * (root(variance) / dynamic_range - 1)), and the base is the number of whole i from 0 to 254
+   with value >= i + 0.5. The threshold is base + threshold_offset, cut to 0..255. Refused: layout, then 7 where a tile
+   side is 0, method is neither 0 nor 1 or, with method 1, k or dynamic_range is not finite or dynamic_range not above
+   0, then 8 where workspace_len is below 5 * t numbers, then 10 where thresholds_len or skips_len is below t. */
+uint32_t imgproc_tile_grid_build(const uint8_t *src, size_t src_len, size_t width, size_t height, size_t stride,
+                                 size_t tile_width, size_t tile_height, size_t neighborhood_radius,
+                                 int16_t threshold_offset, uint8_t contrast_floor,
+                                 uint32_t method, double k, double dynamic_range,
+                                 uint64_t *workspace, size_t workspace_len,
+                                 uint8_t *thresholds, size_t thresholds_len, uint8_t *skips, size_t skips_len,
+                                 size_t *tiles_x, size_t *tiles_y);
+
+/* Puts the threshold of the tile that holds pixel (x, y) into *value. Refused: 7 where a side is not in 1..4096, a
+   tile side is 0 or a tile count is not the side divided by the tile side, rounded up; then 10 where len is below
+   tiles_x * tiles_y; then 9. */
+uint32_t imgproc_threshold_at(size_t width, size_t height, size_t tile_width, size_t tile_height,
+                              size_t tiles_x, size_t tiles_y, const uint8_t *thresholds, size_t len,
+                              size_t x, size_t y, uint8_t *value);
+
+/* Puts 1 into *value where the tile that holds pixel (x, y) is skipped, else 0. Every skip byte but 0 counts as
+   skipped. Refused as imgproc_threshold_at. */
+uint32_t imgproc_is_skip(size_t width, size_t height, size_t tile_width, size_t tile_height,
+                         size_t tiles_x, size_t tiles_y, const uint8_t *skips, size_t len,
+                         size_t x, size_t y, uint8_t *value);
+
+/* Puts 1 into *value where every tile of the tile row that holds row y is skipped, else 0. Refused as
+   imgproc_threshold_at. */
+uint32_t imgproc_row_all_skip(size_t width, size_t height, size_t tile_width, size_t tile_height,
+                              size_t tiles_x, size_t tiles_y, const uint8_t *skips, size_t len,
+                              size_t y, uint8_t *value);
+
+/* The square root of x, correctly rounded: of -0.0 it is -0.0, of a NaN and of a value below zero a NaN. */
+double imgproc_root(double x);
 
 #ifdef __cplusplus
 }

@@ -1,3 +1,4 @@
 -- What the exports promise, in the words of the libraries below.
 pub mod Picture
 pub mod Operators
+pub mod Grid

@@ -1,8 +1,12 @@
-// An answer taken apart: its number, and the lent number that its value goes to.
+// An answer taken apart: its number, and the lent numbers that its values go to. A refusal leaves them.
+use imgproc::grid::Built;
+use imgproc::grid::TileSkip;
+use imgproc::grid::TileThreshold;
 use imgproc::morphology::Compared;
 ghost use Rattle.imgproc_c.specs.Operators.{Counted};
+ghost use Rattle.imgproc_c.specs.Grid.{Laid, ThresholdAsked, SkipAsked};
 
-// The count goes to the lent number; a refusal leaves it.
+// The count goes to the lent number.
 pub(crate) fn counted(answer: Compared, comparisons: &mut u64) -> u32
     ensures { λ r. ⌜ Counted answer (now (comparisons .entry)) r (now (comparisons .exit)) ⌝ }
 {
@@ -12,5 +16,49 @@ pub(crate) fn counted(answer: Compared, comparisons: &mut u64) -> u32
             0
         }
         Compared::Refused(error) => imgproc::number(error),
+    }
+}
+
+// The tile counts go to the lent numbers.
+pub(crate) fn built(answer: Built, tiles_x: &mut usize, tiles_y: &mut usize) -> u32
+    ensures { λ r. ⌜ Laid answer (now («tiles_x» .entry)) (now («tiles_y» .entry)) r (now («tiles_x» .exit)) (now («tiles_y» .exit)) ⌝ }
+{
+    match answer {
+        Built::Tiles(x, y) => {
+            *tiles_x = x;
+            *tiles_y = y;
+            0
+        }
+        Built::Refused(error) => imgproc::number(error),
+    }
+}
+
+// The threshold goes to the lent number.
+pub(crate) fn asked_threshold(answer: TileThreshold, value: &mut u8) -> u32
+    ensures { λ r. ⌜ ThresholdAsked answer (now (value .entry)) r (now (value .exit)) ⌝ }
+{
+    match answer {
+        TileThreshold::Value(found) => {
+            *value = found;
+            0
+        }
+        TileThreshold::Refused(error) => imgproc::number(error),
+    }
+}
+
+// The skip goes to the lent number, as 0 or 1.
+pub(crate) fn asked_skip(answer: TileSkip, value: &mut u8) -> u32
+    ensures { λ r. ⌜ SkipAsked answer (now (value .entry)) r (now (value .exit)) ⌝ }
+{
+    match answer {
+        TileSkip::Is(skip) => {
+            if skip {
+                *value = 1;
+            } else {
+                *value = 0;
+            }
+            0
+        }
+        TileSkip::Refused(error) => imgproc::number(error),
     }
 }

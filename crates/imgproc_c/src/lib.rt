@@ -1,7 +1,9 @@
 // The C interface: flat parameters, the answer a refusal's number or 0, values through numbers that are lent.
 // A refused call leaves every lent number and byte as it was. include/imgproc.h says what a caller has to keep.
 mod answers;
+pub mod grid;
 pub mod illumination;
 pub mod morphology;
 pub mod picture;
+pub mod root;
 pub mod threshold;

@@ -1,9 +1,6 @@
 //! Each ported call against the published Rust: one process, the same buffers, warm, in turns. Prints the medians'
 //! ratios, ours to the Rust's, as a table; below 1 is faster than the Rust.
 
-// A part may serve only subjects that are not in the list below.
-#![allow(dead_code)]
-
 mod through;
 mod time;
 
@@ -22,6 +19,8 @@ subjects! {
     morphology
     illumination
     sauvola
+    grid
+    root
 }
 
 fn main() {

@@ -1,9 +1,6 @@
 //! The library and the published Rust on the same inputs: `differential short`, `differential long` or
 //! `differential self-test`. The first difference ends the run with the smallest input found and a status that is not 0.
 
-// A part may serve only subjects that are not in the list below.
-#![allow(dead_code)]
-
 mod case;
 mod document;
 mod fault;
@@ -34,6 +31,8 @@ subjects! {
     morphology
     illumination
     sauvola
+    grid
+    root
 }
 
 const SEED: u64 = 20_261_017;

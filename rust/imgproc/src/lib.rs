@@ -24,9 +24,11 @@
 mod refusal;
 pub use refusal::{LumaError, Refusal};
 
+pub mod grid;
 pub mod illumination;
 pub mod image;
 pub mod morphology;
+pub mod root;
 pub mod sauvola;
 
 /// The largest side of a picture.
