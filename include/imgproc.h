@@ -166,6 +166,28 @@ uint32_t imgproc_row_all_skip(size_t width, size_t height, size_t tile_width, si
                               size_t tiles_x, size_t tiles_y, const uint8_t *skips, size_t len,
                               size_t y, uint8_t *value);
 
+/* Reads a picture. It is divided by its background with structuring_element, target_luma and denominator_floor, as
+   imgproc_background_divide_into does, and the result opened with opening_kernel, as imgproc_grayscale_open_into does.
+   Over the opened picture the tiles that imgproc_tile_grid_build would skip with the next eight settings are skipped,
+   and every other pixel is dark or light as imgproc_sauvola_into would have it with the next five. The rows of dst get
+   dark_value for a dark pixel and light_value for a light or skipped one, and no other byte of dst is written. *dark,
+   *light and *skipped are how many pixels are what, *comparisons those of samples in the closing and the opening. With
+   t the number of tiles, refused: layout of src, layout of dst, 5, then 7 for the settings of the division, 6 where
+   opening_kernel is even or below 3, 7 for the settings of the grid, method included, 7 for those of the threshold,
+   then 8 where bytes_len is below 9 * width * height + 2 * t or words_len below 2 * (width + 1) * (height + 1) + 5 * t
+   numbers. */
+uint32_t imgproc_reading(const uint8_t *src, size_t src_len, size_t src_width, size_t src_height, size_t src_stride,
+                         uint8_t *dst, size_t dst_len, size_t dst_width, size_t dst_height, size_t dst_stride,
+                         size_t structuring_element, uint8_t target_luma, uint8_t denominator_floor,
+                         size_t opening_kernel,
+                         size_t tile_width, size_t tile_height, size_t neighborhood_radius,
+                         int16_t threshold_offset, uint8_t contrast_floor,
+                         uint32_t method, double k, double dynamic_range,
+                         size_t radius, uint32_t k_milli, uint32_t sauvola_dynamic_range,
+                         uint8_t dark_value, uint8_t light_value,
+                         uint8_t *bytes, size_t bytes_len, uint64_t *words, size_t words_len,
+                         uint64_t *dark, uint64_t *light, uint64_t *skipped, uint64_t *comparisons);
+
 /* The square root of x, correctly rounded: of -0.0 it is -0.0, of a NaN and of a value below zero a NaN. */
 double imgproc_root(double x);
 

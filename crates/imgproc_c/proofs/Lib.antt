@@ -2,3 +2,4 @@
 pub mod Numbers
 pub mod OperatorNumbers
 pub mod GridNumbers
+pub mod ReadingNumbers

@@ -2,3 +2,4 @@
 pub mod Picture
 pub mod Operators
 pub mod Grid
+pub mod Reading

@@ -3,8 +3,10 @@ use imgproc::grid::Built;
 use imgproc::grid::TileSkip;
 use imgproc::grid::TileThreshold;
 use imgproc::morphology::Compared;
+use imgproc::reading::Read;
 ghost use Rattle.imgproc_c.specs.Operators.{Counted};
 ghost use Rattle.imgproc_c.specs.Grid.{Laid, ThresholdAsked, SkipAsked};
+ghost use Rattle.imgproc_c.specs.Reading.{ReadOut};
 
 // The count goes to the lent number.
 pub(crate) fn counted(answer: Compared, comparisons: &mut u64) -> u32
@@ -60,5 +62,27 @@ pub(crate) fn asked_skip(answer: TileSkip, value: &mut u8) -> u32
             0
         }
         TileSkip::Refused(error) => imgproc::number(error),
+    }
+}
+
+// The four counts go to the lent numbers.
+pub(crate) fn read(
+    answer: Read,
+    dark: &mut u64,
+    light: &mut u64,
+    skipped: &mut u64,
+    comparisons: &mut u64,
+) -> u32
+    ensures { λ r. ⌜ ReadOut answer (now (dark .entry)) (now (light .entry)) (now (skipped .entry)) (now (comparisons .entry)) r (now (dark .exit)) (now (light .exit)) (now (skipped .exit)) (now (comparisons .exit)) ⌝ }
+{
+    match answer {
+        Read::Counts(counts) => {
+            *dark = counts.dark;
+            *light = counts.light;
+            *skipped = counts.skipped;
+            *comparisons = counts.comparisons;
+            0
+        }
+        Read::Refused(error) => imgproc::number(error),
     }
 }

@@ -16,7 +16,7 @@ ghost use Rattle.imgproc_c.specs.Picture.{geometry};
 ghost use Rattle.imgproc_c.specs.Grid.{methodOf, settings, grid, pixelCheck, rowCheck, BuildsNumber, Asks};
 
 // The method of a number. Any but 0 and 1 gets a range that is refused.
-fn method_of(method: u32, k: f64, dynamic_range: f64) -> TileThresholdMethod
+pub(crate) fn method_of(method: u32, k: f64, dynamic_range: f64) -> TileThresholdMethod
     ensures { λ r. ⌜ r ≡ methodOf method k «dynamic_range» ⌝ }
 {
     if method == 0 {

@@ -5,5 +5,6 @@ pub mod grid;
 pub mod illumination;
 pub mod morphology;
 pub mod picture;
+pub mod reading;
 pub mod root;
 pub mod threshold;

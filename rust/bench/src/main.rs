@@ -20,6 +20,7 @@ subjects! {
     illumination
     sauvola
     grid
+    reading
     root
 }
 

@@ -10,6 +10,8 @@ mod build;
 mod make;
 mod query;
 
+pub use make::settings;
+
 const QUERY_FAULTS: &[Fault] = &[Source, Count, Refusal, Accepted, Refused, SpoiltCount, SpoiltBuffer(0), Past(0)];
 
 const fn query(name: &'static str, random: fn(&mut Run, &mut Rng) -> Checked) -> Subject {

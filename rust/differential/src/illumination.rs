@@ -16,7 +16,7 @@ use qr_lab_imgproc::illumination::{self as theirs, IlluminationWorkspace};
 use qr_lab_imgproc::ImgProcResult;
 
 #[derive(Clone, Copy, Debug, PartialEq, Eq)]
-pub struct Division(BackgroundDivideConfig);
+pub struct Division(pub BackgroundDivideConfig);
 
 impl Operator for Division {
     type Word = u8;
@@ -74,7 +74,7 @@ impl Operator for Division {
     }
 }
 
-fn settings(rng: &mut Rng) -> Division {
+pub fn settings(rng: &mut Rng) -> Division {
     let structuring_element = match rng.below(10) {
         0..=4 => rng.pick(&[3, 5, 7, 31]),
         5..=7 => 2 * rng.within(1, 40) + 1,

@@ -32,6 +32,7 @@ subjects! {
     illumination
     sauvola
     grid
+    reading
     root
 }
 

@@ -15,7 +15,7 @@ use qr_lab_imgproc::threshold::{self as theirs, ThresholdWorkspace};
 use qr_lab_imgproc::ImgProcResult;
 
 #[derive(Clone, Copy, Debug, PartialEq, Eq)]
-pub struct Sauvola(SauvolaConfig);
+pub struct Sauvola(pub SauvolaConfig);
 
 /// The Rust's sums with a radius wrap near 2^64, so it is asked up to here. Beyond, document 01's clipped window is
 /// the whole picture, as it is here.
@@ -79,7 +79,7 @@ impl Operator for Sauvola {
     }
 }
 
-fn settings(rng: &mut Rng) -> Sauvola {
+pub fn settings(rng: &mut Rng) -> Sauvola {
     let radius = match rng.below(10) {
         0..=3 => rng.within(1, 9),
         4..=5 => rng.within(1, 70),

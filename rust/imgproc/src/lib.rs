@@ -28,6 +28,7 @@ pub mod grid;
 pub mod illumination;
 pub mod image;
 pub mod morphology;
+pub mod reading;
 pub mod root;
 pub mod sauvola;
 

@@ -1,0 +1,60 @@
+-- The answer to an input: the line of the reading of the picture that it is, or refusal 11. Definitions only.
+use Prim.Native.Nat.{ℕ}
+use mathlib.Core.Path.{_≡_}
+use mathlib.Core.List.{List, [], _∷_}
+use lib.IntN.{pos}
+use lib.ListN.{length}
+use Rattle.image.specs.declared.Geometry.{Geometry}
+use Rattle.image.specs.Plane.{packed}
+use Rattle.imgproc.specs.declared.grid.TileThresholdMethod.the-variants.{Midrange}
+use Rattle.imgproc.specs.declared.reading.ReadingConfig.{ReadingConfig}
+use Rattle.imgproc.specs.declared.reading.Read.{Read}
+use Rattle.imgproc.specs.declared.reading.Read.the-variants.{Counts, Refused}
+use Rattle.imgproc.specs.Refusals.{errorNumber}
+use Rattle.imgproc.specs.Reading.{readingOf, readingCheck, readBy, Reads}
+use Rattle.pgm.specs.Form.{Form}
+use Rattle.pgm.specs.Line.{line, refusedLine, Writes}
+
+-- document 01: element 31, target 200, floor 8; m = 3; Midrange tiles 16 by 16, radius 1, offset 0, contrast floor 12; radius 8,
+-- k_milli 200, range 128, dark 0, light 255
+abbrev pub settings : ReadingConfig
+settings = record {
+  division = record { «structuring_element» = 31; «target_luma» = 200; «denominator_floor» = 8 };
+  «opening_kernel» = 3;
+  grid = record { «tile_width» = 16; «tile_height» = 16; «neighborhood_radius» = 1; «threshold_offset» = pos 0; «contrast_floor» = 12; method = Midrange };
+  sauvola = record { radius = 8; «k_milli» = 200; «dynamic_range» = 128; «dark_value» = 0; «light_value» = 255 };
+}
+
+-- the number of an input that is no picture
+abbrev pub malformed : ℕ
+malformed = 11
+
+-- a picture of w by h without padding
+abbrev pub tight : ℕ → ℕ → Geometry
+tight w h = record { width = w; height = h; stride = w }
+
+-- the answer of the reading of a picture of w by h, with a destination and workspaces of these lengths
+abbrev pub readOf : ℕ → ℕ → List ℕ → ℕ → ℕ → ℕ → Read
+readOf w h pixels dst bytes words = readBy (readingCheck (length pixels) (tight w h) dst (tight w h) settings bytes words) (readingOf settings w h (packed pixels w h w))
+
+-- the line of a reading's answer: width, height, dark, light, skipped, comparisons; or the refusal's number
+abbrev pub answerOf : ℕ → ℕ → Read → List ℕ
+answerOf w h (Counts c) = line (w ∷ h ∷ c .dark ∷ c .light ∷ c .skipped ∷ c .comparisons ∷ [])
+answerOf w h (Refused e) = refusedLine (errorNumber e)
+
+-- the answer to a picture: its line is written, and the destination and the workspaces are as the reading leaves them
+pub record AnswersPicture (w h : ℕ) (pixels dst bytes words out : List ℕ) (answer : ℕ) (dst′ bytes′ words′ out′ : List ℕ) : Type 0 where
+  pub writes : Writes (answerOf w h (readOf w h pixels (length dst) (length bytes) (length words))) out answer out′
+  pub reads : Reads pixels (tight w h) dst (tight w h) settings bytes words (readOf w h pixels (length dst) (length bytes) (length words)) dst′ bytes′ words′
+
+-- the answer to an input that is no picture: refusal 11 is written, and every other buffer is as it was
+pub record AnswersMalformed (dst bytes words out : List ℕ) (answer : ℕ) (dst′ bytes′ words′ out′ : List ℕ) : Type 0 where
+  pub writes : Writes (refusedLine malformed) out answer out′
+  pub dst-left : dst′ ≡ dst
+  pub bytes-left : bytes′ ≡ bytes
+  pub words-left : words′ ≡ words
+
+-- the contract of `answer`: of a picture, for the sides and the pixels of its form; of any other input, refusal 11
+pub record AnswersInput (input dst bytes words out : List ℕ) (answer : ℕ) (dst′ bytes′ words′ out′ : List ℕ) : Type 0 where
+  pub picture : (w h : ℕ) → (f : Form input w h) → AnswersPicture w h (f .pixels) dst bytes words out answer dst′ bytes′ words′ out′
+  pub other : ((w h : ℕ) → Form input w h → ⊥) → AnswersMalformed dst bytes words out answer dst′ bytes′ words′ out′

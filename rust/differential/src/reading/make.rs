@@ -1,0 +1,130 @@
+//! Settings and pictures for readings.
+
+use super::chain::{room, Reading};
+use crate::grid;
+use crate::illumination;
+use crate::layouts::{good, picture, sides, spoil, EDGES};
+use crate::levels;
+use crate::rng::{Rng, Word};
+use crate::run::{Checked, Plan, Run};
+use crate::sauvola;
+use imgproc::grid::TileThresholdMethod;
+use imgproc::reading::ReadingConfig;
+
+const REFUSED: [f64; 3] = [f64::NAN, f64::INFINITY, f64::NEG_INFINITY];
+
+fn opening(rng: &mut Rng) -> usize {
+    match rng.below(12) {
+        0..=5 => 3,
+        6..=8 => rng.pick(&[5, 7, 9]),
+        9..=10 => 2 * rng.within(1, 40) + 1,
+        _ => rng.pick(&EDGES).max(2) | 1,
+    }
+}
+
+/// Now and then two settings are wrong at once, so that their order shows.
+fn wrong(rng: &mut Rng, case: &mut Reading) {
+    match rng.below(9) {
+        0 => case.config.division.structuring_element = rng.pick(&[0, 1, 2, 4, 30, usize::MAX - 1]),
+        1 => case.config.division.denominator_floor = 0,
+        2..=3 => case.config.opening_kernel = rng.pick(&[0, 1, 2, 4, 30, usize::MAX - 1]),
+        4 => case.config.grid.tile_width = 0,
+        5 => case.config.grid.tile_height = 0,
+        6 => case.method = rng.pick(&[2, 3, u32::MAX]),
+        7 => match rng.below(2) {
+            0 => case.k = rng.pick(&REFUSED),
+            _ => case.dynamic_range = rng.pick(&[f64::NAN, f64::INFINITY, 0.0, -0.0, -1.0, -5e-324, f64::MIN]),
+        },
+        _ => match rng.below(3) {
+            0 => case.config.sauvola.radius = 0,
+            1 => case.config.sauvola.k_milli = rng.pick(&[1001, 1002, 1 << 31, u32::MAX]),
+            _ => case.config.sauvola.dynamic_range = 0,
+        },
+    }
+}
+
+pub fn random(run: &mut Run, rng: &mut Rng) -> Checked {
+    let division = illumination::settings(rng).0;
+    let (width, height) = sides(rng, 16);
+    let mut config = ReadingConfig {
+        division,
+        opening_kernel: opening(rng),
+        grid: grid::settings(rng, width, height),
+        sauvola: sauvola::settings(rng).0,
+    };
+    match rng.below(5) {
+        0 => config = ReadingConfig { division, ..ReadingConfig::default() },
+        1 => config.grid.contrast_floor = 0,
+        _ => {}
+    }
+    // The Rust's tile sides are any but 0, and so are those of the settings made here.
+    config.grid.tile_width = config.grid.tile_width.max(1);
+    config.grid.tile_height = config.grid.tile_height.max(1);
+    let (src, dst) = (picture(rng, width, height), good(rng, width, height));
+    let mut case = Reading::exact(config, src, dst, rng.next());
+    if rng.one_in(3) {
+        case.bytes += rng.below(40);
+        case.words += rng.below(40);
+    }
+    let (bytes, words) = room(width, height, &config.grid);
+    match rng.below(24) {
+        0 => spoil(rng, &mut case.src, &mut case.s),
+        1 => spoil(rng, &mut case.dst, &mut case.d),
+        2 => {
+            spoil(rng, &mut case.src, &mut case.s);
+            spoil(rng, &mut case.dst, &mut case.d);
+        }
+        3 => {
+            // Another size, at times with as many pixels.
+            let (w, h) = match rng.below(4) {
+                0 => (width + 1, height),
+                1 => (width, height + 1),
+                2 => (height, width),
+                _ => (width * 2, height.div_ceil(2)),
+            };
+            (case.dst, case.d) = good(rng, w, h);
+        }
+        4 => case.bytes = bytes - 1,
+        5 => case.words = words - 1,
+        6 => case.bytes = rng.below(bytes),
+        7 => case.words = rng.below(words),
+        8 => (case.bytes, case.words) = (rng.below(bytes), rng.below(words)),
+        _ => {}
+    }
+    if rng.one_in(10) {
+        wrong(rng, &mut case);
+        if rng.one_in(3) {
+            wrong(rng, &mut case);
+        }
+    }
+    run.case(&case)
+}
+
+pub fn fixed(run: &mut Run, plan: &Plan) -> Checked {
+    let mut usual = ReadingConfig::default();
+    run.case(&Reading::packed(usual, vec![0, 200], 2, 1, 1))?;
+    usual.division.structuring_element = 3;
+    let mut unskipped = usual;
+    unskipped.grid.contrast_floor = 0;
+    let mut small = usual;
+    (small.grid.tile_width, small.grid.tile_height, small.grid.neighborhood_radius) = (1, 2, 0);
+    small.grid.method = TileThresholdMethod::Sauvola { k: 0.2, dynamic_range: 128.0 };
+    for config in [usual, unskipped, small] {
+        levels::all(plan.two_levels.min(9), &[0, 200], |src, w, h, seed| {
+            run.case(&Reading::packed(config, src, w, h, seed))
+        })?;
+        levels::all(plan.three_levels, &[7, 100, 200], |src, w, h, seed| {
+            run.case(&Reading::packed(config, src, w, h, seed))
+        })?;
+    }
+    let mut shapes = vec![(4096, 1), (1, 4096), (640, 480)];
+    if plan.large {
+        shapes.push((4096, 4096));
+    }
+    for (width, height) in shapes {
+        let src = u8::noise(width * height, 9);
+        run.case(&Reading::packed(ReadingConfig::default(), src.clone(), width, height, 10))?;
+        run.case(&Reading::packed(unskipped, src, width, height, 10))?;
+    }
+    Ok(())
+}
