@@ -10,6 +10,7 @@ use crate::run::{Checked, Plan, Run};
 use crate::sauvola;
 use imgproc::grid::TileThresholdMethod;
 use imgproc::reading::ReadingConfig;
+use imgproc::Geometry;
 
 const REFUSED: [f64; 3] = [f64::NAN, f64::INFINITY, f64::NEG_INFINITY];
 
@@ -43,6 +44,15 @@ fn wrong(rng: &mut Rng, case: &mut Reading) {
     }
 }
 
+/// The columns, or the rows, from some place on given one value.
+fn flatten(rng: &mut Rng, (data, g): &mut (Vec<u8>, Geometry)) {
+    let (from_x, from_y) = if rng.one_in(2) { (rng.below(g.width), 0) } else { (0, rng.below(g.height)) };
+    let value = rng.byte();
+    for y in from_y..g.height {
+        data[y * g.stride..][from_x..g.width].fill(value);
+    }
+}
+
 pub fn random(run: &mut Run, rng: &mut Rng) -> Checked {
     let division = illumination::settings(rng).0;
     let (width, height) = sides(rng, 16);
@@ -60,7 +70,15 @@ pub fn random(run: &mut Run, rng: &mut Rng) -> Checked {
     // The Rust's tile sides are any but 0, and so are those of the settings made here.
     config.grid.tile_width = config.grid.tile_width.max(1);
     config.grid.tile_height = config.grid.tile_height.max(1);
-    let (src, dst) = (picture(rng, width, height), good(rng, width, height));
+    let (mut src, dst) = (picture(rng, width, height), good(rng, width, height));
+    if rng.one_in(2) {
+        // Flat on one side and small tiles by themselves, so that some are skipped and others are not.
+        flatten(rng, &mut src);
+        config.grid.tile_width = config.grid.tile_width.min(rng.within(width.div_ceil(12), width));
+        config.grid.tile_height = config.grid.tile_height.min(rng.within(height.div_ceil(12), height));
+        config.grid.neighborhood_radius = rng.pick(&[0, 0, 1]);
+        config.grid.contrast_floor = rng.pick(&[1, 12, 12, 40, 100]);
+    }
     let mut case = Reading::exact(config, src, dst, rng.next());
     if rng.one_in(3) {
         case.bytes += rng.below(40);
