@@ -2,6 +2,7 @@
 use crate::numbers;
 use image::Geometry;
 use imgproc::illumination::BackgroundDivideConfig;
+use imgproc::reading::ReadingConfig;
 use imgproc::threshold::SauvolaConfig;
 
 pub enum Operator {
@@ -11,9 +12,10 @@ pub enum Operator {
     Close(usize),
     Divide(BackgroundDivideConfig),
     Sauvola(SauvolaConfig),
+    Read(ReadingConfig),
 }
 
-// The pictures of a call, and how long the slices are that it is lent. A workspace is bytes or words, by the operator.
+// The pictures of a call, and how long the slices are that it is lent. A workspace is bytes, words or both, by the operator.
 pub struct Lent {
     pub source: Geometry,
     pub source_length: usize,
@@ -23,11 +25,19 @@ pub struct Lent {
     pub words: usize,
 }
 
-// The answer that a case expects: a refusal's number or 0, and the comparisons where an operator counts them. The
-// source and the destination afterwards stand in the list, or else the case is one of numbers alone.
+// What an accepted call counts: a reading all four, morphology and division the comparisons, Sauvola nothing.
+pub struct Counts {
+    pub dark: usize,
+    pub light: usize,
+    pub skipped: usize,
+    pub comparisons: usize,
+}
+
+// The answer that a case expects: a refusal's number or 0, and the counts. The source and the destination afterwards
+// stand in the list, or else the case is one of numbers alone.
 pub struct Expected {
     pub number: usize,
-    pub comparisons: usize,
+    pub counts: Counts,
     pub listed: bool,
 }
 
@@ -96,11 +106,21 @@ pub fn with_words(l: Lent, words: usize) -> Lent {
     lent
 }
 
+// The counts of a call that does not judge pixels.
+pub fn compared(comparisons: usize) -> Counts {
+    Counts {
+        dark: 0,
+        light: 0,
+        skipped: 0,
+        comparisons: comparisons,
+    }
+}
+
 // An accepted case whose bytes stand in the list.
-pub fn stored(comparisons: usize) -> Expected {
+pub fn stored(counts: Counts) -> Expected {
     Expected {
         number: 0,
-        comparisons: comparisons,
+        counts: counts,
         listed: true,
     }
 }
@@ -109,7 +129,7 @@ pub fn stored(comparisons: usize) -> Expected {
 pub fn refused(number: usize) -> Expected {
     Expected {
         number: number,
-        comparisons: 0,
+        counts: compared(0),
         listed: false,
     }
 }

@@ -6,12 +6,12 @@ use crate::numbers::Cursor;
 use crate::operators;
 use imgproc::illumination::BackgroundDivideConfig;
 
-fn operator(element: usize, target: usize, floor: usize) -> Operator {
-    Operator::Divide(BackgroundDivideConfig {
+pub fn settings(element: usize, target: usize, floor: usize) -> BackgroundDivideConfig {
+    BackgroundDivideConfig {
         structuring_element: element,
         target_luma: numbers::byte(target),
         denominator_floor: numbers::byte(floor),
-    })
+    }
 }
 
 // width height source-stride source-length destination-stride destination-length workspace-length element target floor
@@ -24,7 +24,11 @@ pub fn stored_case(text: &[u8], c: Cursor) -> Cursor {
     operators::judge(
         text,
         c,
-        cases::made(operator(f[7], f[8], f[9]), lent, cases::stored(f[10])),
+        cases::made(
+            Operator::Divide(settings(f[7], f[8], f[9])),
+            lent,
+            cases::stored(cases::compared(f[10])),
+        ),
     )
 }
 
@@ -37,6 +41,10 @@ pub fn refusal_case(text: &[u8], c: Cursor) -> Cursor {
     operators::judge(
         text,
         c,
-        cases::made(operator(f[8], f[9], f[10]), lent, cases::refused(f[12])),
+        cases::made(
+            Operator::Divide(settings(f[8], f[9], f[10])),
+            lent,
+            cases::refused(f[12]),
+        ),
     )
 }

@@ -1,5 +1,6 @@
 // Replays lists of cases against the libraries, and writes a line for each list: its name, how many cases it has, how
 // many came out wrong, and the line of the first of those.
+mod answers;
 mod buffers;
 mod cases;
 mod division;
@@ -11,6 +12,7 @@ mod numbers;
 mod operators;
 mod picture;
 mod queries;
+mod reading;
 mod replay;
 mod sauvola;
 
@@ -84,10 +86,17 @@ fn grid_lists() {
     run(b"queries_refusals.txt", List::QueriesRefusals);
 }
 
+fn reading_lists() {
+    run(b"reading.txt", List::Reading);
+    run(b"reading_refusals.txt", List::ReadingRefusals);
+    run(b"answers.txt", List::Answers);
+}
+
 fn main() {
     image_refusals();
     image_bytes();
     stored_answers();
     refusals();
     grid_lists();
+    reading_lists();
 }

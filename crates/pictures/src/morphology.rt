@@ -28,7 +28,11 @@ pub fn stored_case(text: &[u8], c: Cursor) -> Cursor {
     operators::judge(
         text,
         c,
-        cases::made(operator(f[0], f[8]), lent, cases::stored(f[9])),
+        cases::made(
+            operator(f[0], f[8]),
+            lent,
+            cases::stored(cases::compared(f[9])),
+        ),
     )
 }
 

@@ -1,12 +1,16 @@
 // Operators from a source picture to a destination, each through its public call.
 use crate::buffers;
+use crate::cases;
 use crate::cases::Case;
+use crate::cases::Counts;
 use crate::cases::Operator;
 use crate::numbers;
 use crate::numbers::Cursor;
 use imgproc::illumination;
 use imgproc::morphology;
 use imgproc::morphology::Compared;
+use imgproc::reading;
+use imgproc::reading::Read;
 use imgproc::threshold;
 use imgproc::threshold::Binarized;
 
@@ -17,39 +21,49 @@ const DESTINATION: u8 = 11;
 
 const WORKSPACE: u8 = 200;
 
-// A call's answer: 0 or the refusal's number, and the comparisons where an operator counts them.
+// A call's answer: the refusal's number, or 0 and the counts.
 struct Answer {
     number: usize,
-    comparisons: usize,
+    counts: Counts,
 }
 
-fn number(error: imgproc::ImgProcError) -> usize {
-    imgproc::number(error) as usize
+fn refused(error: imgproc::ImgProcError) -> Answer {
+    Answer {
+        number: imgproc::number(error) as usize,
+        counts: cases::compared(0),
+    }
+}
+
+fn accepted(counts: Counts) -> Answer {
+    Answer {
+        number: 0,
+        counts: counts,
+    }
 }
 
 fn compared(answer: Compared) -> Answer {
     match answer {
-        Compared::Comparisons(comparisons) => Answer {
-            number: 0,
-            comparisons: comparisons as usize,
-        },
-        Compared::Refused(error) => Answer {
-            number: number(error),
-            comparisons: 0,
-        },
+        Compared::Comparisons(comparisons) => accepted(cases::compared(comparisons as usize)),
+        Compared::Refused(error) => refused(error),
     }
 }
 
 fn binarized(answer: Binarized) -> Answer {
     match answer {
-        Binarized::Done => Answer {
-            number: 0,
-            comparisons: 0,
-        },
-        Binarized::Refused(error) => Answer {
-            number: number(error),
-            comparisons: 0,
-        },
+        Binarized::Done => accepted(cases::compared(0)),
+        Binarized::Refused(error) => refused(error),
+    }
+}
+
+fn read(answer: Read) -> Answer {
+    match answer {
+        Read::Counts(counts) => accepted(Counts {
+            dark: counts.dark as usize,
+            light: counts.light as usize,
+            skipped: counts.skipped as usize,
+            comparisons: counts.comparisons as usize,
+        }),
+        Read::Refused(error) => refused(error),
     }
 }
 
@@ -105,11 +119,25 @@ fn call(case: Case, src: &[u8], dst: &mut [u8], bytes: &mut [u8], words: &mut [u
             s,
             words,
         )),
+        Operator::Read(s) => read(reading::reading(
+            src,
+            l.source,
+            dst,
+            l.destination,
+            s,
+            bytes,
+            words,
+        )),
     }
 }
 
+fn same(a: Counts, b: Counts) -> bool {
+    let judged = a.dark == b.dark && a.light == b.light && a.skipped == b.skipped;
+    judged && a.comparisons == b.comparisons
+}
+
 fn answers(answer: Answer, case: Case) -> bool {
-    answer.number == case.expected.number && answer.comparisons == case.expected.comparisons
+    answer.number == case.expected.number && same(answer.counts, case.expected.counts)
 }
 
 // A case whose source, and the destination afterwards, stand in the list.
@@ -243,7 +271,7 @@ fn workspaces_within(
 pub fn judge(text: &[u8], c: Cursor, case: Case) -> Cursor {
     let mut src = [0u8; 8192];
     let mut dst = [0u8; 8192];
-    let mut bytes = [0u8; 32768];
-    let mut words = [0u64; 16400];
+    let mut bytes = [0u8; 40960];
+    let mut words = [0u64; 18432];
     workspaces_within(text, c, case, &mut src, &mut dst, &mut bytes, &mut words)
 }

@@ -1,4 +1,5 @@
 // Replays the cases of a list, and counts those that come out wrong.
+use crate::answers;
 use crate::division;
 use crate::grid;
 use crate::listed;
@@ -7,6 +8,7 @@ use crate::numbers;
 use crate::numbers::Cursor;
 use crate::picture;
 use crate::queries;
+use crate::reading;
 use crate::sauvola;
 use std::num::wrapping_add_usize;
 
@@ -29,6 +31,9 @@ pub enum List {
     GridRefusals,
     Queries,
     QueriesRefusals,
+    Reading,
+    ReadingRefusals,
+    Answers,
 }
 
 // How many cases a list has, how many came out wrong, and the line of the first of them.
@@ -66,6 +71,9 @@ fn one_case(list: List, text: &[u8], c: Cursor) -> Cursor {
         List::GridRefusals => grid::refusal_case(text, c),
         List::Queries => queries::stored_case(text, c),
         List::QueriesRefusals => queries::refusal_case(text, c),
+        List::Reading => reading::stored_case(text, c),
+        List::ReadingRefusals => reading::refusal_case(text, c),
+        List::Answers => answers::answer_case(text, c),
     }
 }
 

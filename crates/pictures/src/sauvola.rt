@@ -6,14 +6,14 @@ use crate::numbers::Cursor;
 use crate::operators;
 use imgproc::threshold::SauvolaConfig;
 
-fn operator(radius: usize, k: usize, range: usize, dark: usize, light: usize) -> Operator {
-    Operator::Sauvola(SauvolaConfig {
+pub fn settings(radius: usize, k: usize, range: usize, dark: usize, light: usize) -> SauvolaConfig {
+    SauvolaConfig {
         radius: radius,
         k_milli: numbers::word(k),
         dynamic_range: numbers::word(range),
         dark_value: numbers::byte(dark),
         light_value: numbers::byte(light),
-    })
+    }
 }
 
 // width height source-stride source-length destination-stride destination-length workspace-length radius k-milli
@@ -27,9 +27,9 @@ pub fn stored_case(text: &[u8], c: Cursor) -> Cursor {
         text,
         c,
         cases::made(
-            operator(f[7], f[8], f[9], f[10], f[11]),
+            Operator::Sauvola(settings(f[7], f[8], f[9], f[10], f[11])),
             lent,
-            cases::stored(0),
+            cases::stored(cases::compared(0)),
         ),
     )
 }
@@ -44,7 +44,7 @@ pub fn refusal_case(text: &[u8], c: Cursor) -> Cursor {
         text,
         c,
         cases::made(
-            operator(f[8], f[9], f[10], 0, 255),
+            Operator::Sauvola(settings(f[8], f[9], f[10], 0, 255)),
             lent,
             cases::refused(f[12]),
         ),

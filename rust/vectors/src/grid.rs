@@ -4,7 +4,7 @@ use crate::picture::{noise, pattern, List, Picture};
 use qr_lab_imgproc::threshold::{TileThresholdConfig, TileThresholdGrid, TileThresholdMethod};
 
 /// The method as the list gives it: its number, then the bits of k and of the range.
-fn numbers(method: TileThresholdMethod) -> (u8, u64, u64) {
+pub fn numbers(method: TileThresholdMethod) -> (u8, u64, u64) {
     match method {
         TileThresholdMethod::Midrange => (0, 0, 0),
         TileThresholdMethod::Sauvola { k, dynamic_range } => (1, k.to_bits(), dynamic_range.to_bits()),
