@@ -13,10 +13,10 @@ fn main() -> Result<(), Refusal> {
     let mut bytes = vec![0; bytes_len(24, 30, &config.grid)];
     let mut words = vec![0; words_len(24, 30, &config.grid)];
     let counts = reading(picture, geometry, &mut marked, geometry, &config, &mut bytes, &mut words)?;
+    println!("24 30 {} {} {} {}", counts.dark, counts.light, counts.skipped, counts.comparisons);
     let mark = |&value| if value == config.sauvola.dark_value { '#' } else { '.' };
     for row in marked.chunks(24) {
         println!("{}", row.iter().map(mark).collect::<String>());
     }
-    println!("{counts:?}");
     Ok(())
 }
