@@ -1,5 +1,6 @@
 //! One case: what our side left behind, held to what is expected of it.
 
+use crate::corner::Corner;
 use crate::fault::Fault;
 use crate::guard::Guarded;
 use crate::rng::Word;
@@ -53,6 +54,10 @@ pub trait Case: Clone {
     /// Whether the safe call says the same; only asked when the rest is right.
     fn safe(&self, expected: &Expected<'_>) -> Result<(), String>;
     fn places(&self) -> Places;
+    /// The corners of the domain that it stands at.
+    fn corners(&self) -> Vec<Corner> {
+        Vec::new()
+    }
     /// Cases that are simpler, to look for the smallest one that still differs.
     fn smaller(&self) -> Vec<Self>;
     fn tell(&self) -> String;

@@ -1,6 +1,7 @@
 //! Faults planted in our side's answer, to see that the comparison reports each of them.
 
 use crate::case::{Buffer, Outcome, Places};
+use Fault::*;
 
 #[derive(Clone, Copy, Debug)]
 pub enum Fault {
@@ -24,6 +25,39 @@ pub enum Fault {
     SpoiltBuffer(usize),
     /// One byte or number past the end of a lent buffer.
     Past(usize),
+}
+
+/// Faults of a call that answers a number and is lent nothing.
+pub const ANSWERING: &[Fault] = &[Refusal, Accepted, Refused];
+/// Faults of a call that reads one lent buffer and gives a number.
+pub const ASKING: &[Fault] = &[Source, Count, Refusal, Accepted, Refused, SpoiltCount, SpoiltBuffer(0), Past(0)];
+/// Two of a number that is given, seven of every call that writes, then two of each buffer written.
+const WRITING: &[Fault] = &[
+    Count,
+    SpoiltCount,
+    Byte,
+    Beside,
+    Source,
+    Refusal,
+    Accepted,
+    Refused,
+    SpoiltBuffer(0),
+    SpoiltBuffer(1),
+    Past(1),
+    SpoiltBuffer(2),
+    Past(2),
+    SpoiltBuffer(3),
+    Past(3),
+];
+
+/// Faults of a call that reads its first lent buffer and writes so many more, up to three.
+pub const fn writing(buffers: usize) -> &'static [Fault] {
+    counting(buffers).split_at(2).1
+}
+
+/// Likewise of one that gives a number too.
+pub const fn counting(buffers: usize) -> &'static [Fault] {
+    WRITING.split_at(9 + 2 * buffers).0
 }
 
 impl Fault {

@@ -1,7 +1,8 @@
 //! Division by the background.
 
 use crate::case::Buffer;
-use crate::fault::Fault::{Accepted, Beside, Byte, Count, Past, Refusal, Refused, Source, SpoiltBuffer, SpoiltCount};
+use crate::corner::{self, Corner};
+use crate::fault;
 use crate::guard::Guarded;
 use crate::layouts::{sides, EDGES};
 use crate::levels;
@@ -54,6 +55,10 @@ impl Operator for Division {
     /// Those of the closing: raising the background to the floor is not counted.
     fn comparisons(&self, width: usize, height: usize) -> Result<u64, String> {
         plain::comparisons(width, height, self.0.structuring_element, 2)
+    }
+
+    fn corners(&self, width: usize, height: usize) -> Vec<Corner> {
+        corner::element(self.0.structuring_element, width, height)
     }
 
     fn simpler(&self) -> Vec<Self> {
@@ -132,8 +137,10 @@ fn fixed(run: &mut Run, plan: &Plan) -> Checked {
         shapes.push((4096, 4096));
     }
     for (width, height) in shapes {
-        let src = u8::noise(width * height, 4);
-        run.case(&Through::packed(Division(BackgroundDivideConfig::default()), src, width, height, 5))?;
+        for structuring_element in [usual.structuring_element].into_iter().chain(corner::kernels(width, height)) {
+            let op = Division(BackgroundDivideConfig { structuring_element, ..usual });
+            run.case(&Through::packed(op, u8::noise(width * height, 4), width, height, 5))?;
+        }
     }
     Ok(())
 }
@@ -141,21 +148,8 @@ fn fixed(run: &mut Run, plan: &Plan) -> Checked {
 pub const SUBJECTS: &[Subject] = &[Subject {
     name: "background_divide_into",
     refuses: &[1, 2, 3, 4, 5, 7, 8],
-    faults: &[
-        Byte,
-        Beside,
-        Source,
-        Count,
-        Refusal,
-        Accepted,
-        Refused,
-        SpoiltCount,
-        SpoiltBuffer(0),
-        SpoiltBuffer(1),
-        SpoiltBuffer(2),
-        Past(1),
-        Past(2),
-    ],
+    corners: &[corner::PICTURE, corner::ELEMENT],
+    faults: fault::counting(2),
     round: 40_000,
     random,
     fixed,

@@ -1,67 +1,67 @@
 //! The image calls: layout, pixels and rows, packed planes.
 
-use crate::fault::Fault::{Accepted, Beside, Byte, Count, Past, Refusal, Refused, Source, SpoiltBuffer, SpoiltCount};
-use crate::run::{no_fixed, Subject};
+use crate::corner;
+use crate::fault::Fault::{self, Accepted, Beside, Byte, Past, Refusal, Refused, SpoiltBuffer};
+use crate::fault::{writing, ANSWERING, ASKING};
+use crate::rng::Rng;
+use crate::run::{no_fixed, Checked, Plan, Run, Subject};
 
 mod layout;
 mod pixels;
 mod planes;
 
+const SET_FAULTS: &[Fault] = &[Byte, Beside, Refusal, Accepted, Refused, SpoiltBuffer(0), Past(0)];
+
+/// A call that has no settings besides a layout.
+const fn subject(
+    name: &'static str, refuses: &'static [u32], faults: &'static [Fault], round: u64,
+    random: fn(&mut Run, &mut Rng) -> Checked, fixed: fn(&mut Run, &Plan) -> Checked,
+) -> Subject {
+    Subject { name, refuses, corners: &[corner::PICTURE], faults, round, random, fixed }
+}
+
 pub const SUBJECTS: &[Subject] = &[
-    Subject {
-        name: layout::NAME,
-        refuses: &[1, 2, 3, 4],
-        faults: &[Refusal, Accepted, Refused],
-        round: 300_000,
-        random: layout::random,
-        fixed: layout::fixed,
-    },
-    Subject {
-        name: layout::LONG,
-        refuses: &[1, 2, 3, 4],
-        faults: &[Refusal, Accepted, Refused],
-        round: 100_000,
-        random: layout::random_long,
-        fixed: no_fixed,
-    },
-    Subject {
-        name: "get",
-        refuses: &[1, 2, 3, 4, 9],
-        faults: &[Source, Count, Refusal, Accepted, Refused, SpoiltCount, SpoiltBuffer(0), Past(0)],
-        round: 150_000,
-        random: |run, rng| pixels::random(run, rng, pixels::Call::Get),
-        fixed: no_fixed,
-    },
-    Subject {
-        name: "set",
-        refuses: &[1, 2, 3, 4, 9],
-        faults: &[Byte, Beside, Refusal, Accepted, Refused, SpoiltBuffer(0), Past(0)],
-        round: 150_000,
-        random: |run, rng| pixels::random(run, rng, pixels::Call::Set),
-        fixed: no_fixed,
-    },
-    Subject {
-        name: "row",
-        refuses: &[1, 2, 3, 4, 8, 9],
-        faults: &[Byte, Beside, Source, Refusal, Accepted, Refused, SpoiltBuffer(0), SpoiltBuffer(1), Past(1)],
-        round: 150_000,
-        random: |run, rng| pixels::random(run, rng, pixels::Call::Row),
-        fixed: no_fixed,
-    },
-    Subject {
-        name: "pack",
-        refuses: &[1, 2, 3, 4, 8],
-        faults: &[Byte, Beside, Source, Refusal, Accepted, Refused, SpoiltBuffer(0), SpoiltBuffer(1), Past(1)],
-        round: 100_000,
-        random: |run, rng| planes::random(run, rng, true),
-        fixed: no_fixed,
-    },
-    Subject {
-        name: "unpack",
-        refuses: &[1, 2, 3, 4, 8],
-        faults: &[Byte, Beside, Source, Refusal, Accepted, Refused, SpoiltBuffer(0), SpoiltBuffer(1), Past(1)],
-        round: 100_000,
-        random: |run, rng| planes::random(run, rng, false),
-        fixed: no_fixed,
-    },
+    subject(layout::NAME, &[1, 2, 3, 4], ANSWERING, 300_000, layout::random, layout::fixed),
+    // The fixed cases of the line above have such lengths too.
+    subject(layout::LONG, &[1, 2, 3, 4], ANSWERING, 100_000, layout::random_long, no_fixed),
+    subject(
+        "get",
+        &[1, 2, 3, 4, 9],
+        ASKING,
+        150_000,
+        |run, rng| pixels::random(run, rng, pixels::Call::Get),
+        |run, plan| pixels::fixed(run, plan, pixels::Call::Get),
+    ),
+    subject(
+        "set",
+        &[1, 2, 3, 4, 9],
+        SET_FAULTS,
+        150_000,
+        |run, rng| pixels::random(run, rng, pixels::Call::Set),
+        |run, plan| pixels::fixed(run, plan, pixels::Call::Set),
+    ),
+    subject(
+        "row",
+        &[1, 2, 3, 4, 8, 9],
+        writing(1),
+        150_000,
+        |run, rng| pixels::random(run, rng, pixels::Call::Row),
+        |run, plan| pixels::fixed(run, plan, pixels::Call::Row),
+    ),
+    subject(
+        "pack",
+        &[1, 2, 3, 4, 8],
+        writing(1),
+        100_000,
+        |run, rng| planes::random(run, rng, true),
+        |run, plan| planes::fixed(run, plan, true),
+    ),
+    subject(
+        "unpack",
+        &[1, 2, 3, 4, 8],
+        writing(1),
+        100_000,
+        |run, rng| planes::random(run, rng, false),
+        |run, plan| planes::fixed(run, plan, false),
+    ),
 ];

@@ -1,7 +1,7 @@
 //! Layouts, right and wrong, and pictures to fill them.
 
 use crate::rng::{Rng, Word};
-use imgproc::Geometry;
+use imgproc::{Geometry, MAX_SIDE};
 
 /// Numbers at which something changes, up to the largest.
 pub const EDGES: [usize; 19] = [
@@ -130,6 +130,12 @@ pub fn picture(rng: &mut Rng, width: usize, height: usize) -> (Vec<u8>, Geometry
     let (mut data, g) = good(rng, width, height);
     paint(rng, &mut data, g);
     (data, g)
+}
+
+/// The largest picture, packed, all of it noise.
+pub fn largest(seed: u64) -> (Vec<u8>, Geometry) {
+    let g = Geometry::packed(MAX_SIDE, MAX_SIDE);
+    (u8::noise(g.area(), seed), g)
 }
 
 /// Sides of a picture: mostly small, often around multiples of k, at times a line of up to 4096.

@@ -2,6 +2,7 @@
 //! `differential self-test`. The first difference ends the run with the smallest input found and a status that is not 0.
 
 mod case;
+mod corner;
 mod document;
 mod fault;
 mod guard;
@@ -13,6 +14,7 @@ mod run;
 mod rust;
 mod through;
 
+use corner::Corner;
 use rng::Rng;
 use run::{Difference, Plan, Run, Subject};
 use std::process::ExitCode;
@@ -39,6 +41,8 @@ subjects! {
 const SEED: u64 = 20_261_017;
 const SHORT: Plan = Plan { two_levels: 9, three_levels: 5, large: false };
 const LONG: Plan = Plan { two_levels: 12, three_levels: 6, large: true };
+/// No picture only for its levels: what is left are the boundary cases.
+const LEAST: Plan = Plan { two_levels: 0, three_levels: 0, large: false };
 const USAGE: &str = "differential short | long [--seed N] [--minutes M | --scale K] | self-test";
 
 /// How long random rounds go on.
@@ -88,7 +92,8 @@ fn subjects() -> impl Iterator<Item = &'static Subject> {
     SUBJECTS.iter().flat_map(|list| list.iter())
 }
 
-/// Fixed cases, then rounds of random ones; then the table, and whether each subject had what it should have.
+/// Fixed cases, which have to reach every corner, then rounds of random ones; then the tables, and whether each subject
+/// had what it should have.
 fn compared(plan: &Plan, seed: u64, rounds: Rounds) -> Result<(), String> {
     println!("seed {seed}");
     let start = Instant::now();
@@ -96,6 +101,9 @@ fn compared(plan: &Plan, seed: u64, rounds: Rounds) -> Result<(), String> {
     let told = |Difference(what)| format!("difference in {what}");
     for subject in subjects() {
         (subject.fixed)(&mut run, plan).map_err(told)?;
+    }
+    for subject in subjects() {
+        at_every_corner(&run, subject, plan)?;
     }
     let mut round = 0;
     loop {
@@ -115,6 +123,7 @@ fn compared(plan: &Plan, seed: u64, rounds: Rounds) -> Result<(), String> {
         }
     }
     table(&run);
+    corners(&run, plan);
     println!("{round} rounds of random cases, {} s", start.elapsed().as_secs());
     for subject in subjects() {
         let count = run.counts.get(subject.name).cloned().unwrap_or_default();
@@ -146,8 +155,30 @@ fn table(run: &Run) {
     println!("| all | {all_accepted} | {all_refused} | |");
 }
 
+/// Whether a subject had an accepted case at every corner that it declares.
+fn at_every_corner(run: &Run, subject: &Subject, plan: &Plan) -> Result<(), String> {
+    match run.unreached(subject, plan).first() {
+        Some(corner) => Err(format!("{} has no accepted case at the corner {}", subject.name, corner.label())),
+        None => Ok(()),
+    }
+}
+
+/// The accepted cases of each subject at its corners.
+fn corners(run: &Run, plan: &Plan) {
+    let left_out = if plan.large { "" } else { ", 4096 x 4096 left to the long run" };
+    println!("| call | accepted at corners{left_out} |\n|---|---|");
+    for subject in subjects() {
+        let told = |corner: Corner| format!("{}: {}", corner.label(), run.at(subject, corner));
+        let list: Vec<String> = subject.corners().filter(|&corner| plan.asks(corner)).map(told).collect();
+        if !list.is_empty() {
+            println!("| {} | {} |", subject.name, list.join(", "));
+        }
+    }
+}
+
 /// Plants each fault of each subject in our side's answer and sees that it is reported.
 fn self_test() -> Result<(), String> {
+    let corners = missed_corners()?;
     let mut seen = 0;
     for subject in subjects() {
         for &fault in subject.faults {
@@ -170,6 +201,36 @@ fn self_test() -> Result<(), String> {
             seen += 1;
         }
     }
-    println!("self-test: {seen} planted faults, each reported");
+    println!("self-test: {seen} planted faults, each reported; {corners} corners, each missed where no case is at it");
     Ok(())
+}
+
+/// Leaves each corner of each subject out of the count and sees that it alone is missed. The largest picture is asked for
+/// as in the long run.
+fn missed_corners() -> Result<usize, String> {
+    let mut run = Run::default();
+    for subject in subjects() {
+        (subject.fixed)(&mut run, &LEAST).map_err(|Difference(what)| format!("difference in {what}"))?;
+    }
+    let mut seen = 0;
+    for subject in subjects() {
+        at_every_corner(&run, subject, &LEAST)?;
+        for corner in subject.corners() {
+            let mut less = Run { corners: run.corners.clone(), ..Run::default() };
+            less.corners.remove(&(subject.name, corner));
+            let plan = Plan { large: corner == Corner::LargestPicture, ..LEAST };
+            if less.unreached(subject, &plan) != [corner] || at_every_corner(&less, subject, &plan).is_ok() {
+                return Err(format!("self-test: {corner:?} of {} was not missed", subject.name));
+            }
+            seen += 1;
+        }
+    }
+    undeclared(&run).map_or(Ok(seen), Err)
+}
+
+/// A corner that a subject reaches and does not declare.
+fn undeclared(run: &Run) -> Option<String> {
+    let declared: Vec<_> = subjects().flat_map(|s| s.corners().map(move |corner| (s.name, corner))).collect();
+    let (name, corner) = run.corners.keys().find(|at| !declared.contains(at))?;
+    Some(format!("self-test: {name} reaches {corner:?} and does not declare it"))
 }

@@ -1,9 +1,8 @@
 //! Erosion, dilation, opening and closing.
 
 use crate::case::Buffer;
-use crate::fault::Fault::{
-    self, Accepted, Beside, Byte, Count, Past, Refusal, Refused, Source, SpoiltBuffer, SpoiltCount,
-};
+use crate::corner::{self, Corner};
+use crate::fault;
 use crate::guard::Guarded;
 use crate::layouts::{sides, EDGES};
 use crate::levels;
@@ -90,6 +89,10 @@ impl Operator for Morphology {
         plain::comparisons(width, height, self.kernel_size, passes)
     }
 
+    fn corners(&self, width: usize, height: usize) -> Vec<Corner> {
+        corner::kernel(self.kernel_size, width, height)
+    }
+
     fn simpler(&self) -> Vec<Self> {
         [3, self.kernel_size / 4 * 2 + 1, self.kernel_size.saturating_sub(2)]
             .into_iter()
@@ -149,7 +152,7 @@ fn fixed(run: &mut Run, plan: &Plan, kind: Kind) -> Checked {
         shapes.push((4096, 4096));
     }
     for (width, height) in shapes {
-        for kernel_size in [3, 31, usize::MAX] {
+        for kernel_size in [3, 31].into_iter().chain(corner::kernels(width, height)) {
             let op = Morphology { kind, kernel_size };
             let src = u8::noise(width * height, kernel_size as u64);
             run.case(&Through::packed(op, src, width, height, 1))?;
@@ -158,26 +161,18 @@ fn fixed(run: &mut Run, plan: &Plan, kind: Kind) -> Checked {
     Ok(())
 }
 
-const FAULTS: &[Fault] = &[
-    Byte,
-    Beside,
-    Source,
-    Count,
-    Refusal,
-    Accepted,
-    Refused,
-    SpoiltCount,
-    SpoiltBuffer(0),
-    SpoiltBuffer(1),
-    SpoiltBuffer(2),
-    Past(1),
-    Past(2),
-];
-
 const fn subject(
     name: &'static str, random: fn(&mut Run, &mut Rng) -> Checked, fixed: fn(&mut Run, &Plan) -> Checked,
 ) -> Subject {
-    Subject { name, refuses: &[1, 2, 3, 4, 5, 6, 8], faults: FAULTS, round: 40_000, random, fixed }
+    Subject {
+        name,
+        refuses: &[1, 2, 3, 4, 5, 6, 8],
+        corners: &[corner::PICTURE, corner::KERNEL],
+        faults: fault::counting(2),
+        round: 40_000,
+        random,
+        fixed,
+    }
 }
 
 pub const SUBJECTS: &[Subject] = &[

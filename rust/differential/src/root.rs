@@ -82,4 +82,4 @@ fn fixed(run: &mut Run, _: &Plan) -> Checked {
 }
 
 pub const SUBJECTS: &[Subject] =
-    &[Subject { name: "root", refuses: &[], faults: &[Count], round: 1_000_000, random, fixed }];
+    &[Subject { name: "root", refuses: &[], corners: &[], faults: &[Count], round: 1_000_000, random, fixed }];

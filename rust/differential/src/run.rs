@@ -1,6 +1,7 @@
-//! Runs cases, counts them by subject, and stops at the first difference.
+//! Runs cases, counts them by subject and by corner, and stops at the first difference.
 
 use crate::case::{held, smallest, Case};
+use crate::corner::Corner;
 use crate::fault::Fault;
 use crate::rng::Rng;
 use std::collections::BTreeMap;
@@ -30,10 +31,19 @@ pub struct Plan {
     pub large: bool,
 }
 
+impl Plan {
+    /// Whether a corner has to be reached.
+    pub fn asks(&self, corner: Corner) -> bool {
+        self.large || corner != Corner::LargestPicture
+    }
+}
+
 pub struct Subject {
     pub name: &'static str,
     /// The numbers that it can refuse with; each has to come up.
     pub refuses: &'static [u32],
+    /// The corners of each setting that its call has; a fixed case has to be accepted at every one.
+    pub corners: &'static [&'static [Corner]],
     /// Faults that its comparison has to report.
     pub faults: &'static [Fault],
     /// Cases of one round of random ones.
@@ -41,6 +51,12 @@ pub struct Subject {
     pub random: fn(&mut Run, &mut Rng) -> Checked,
     /// Exhaustive and boundary cases.
     pub fixed: fn(&mut Run, &Plan) -> Checked,
+}
+
+impl Subject {
+    pub fn corners(&self) -> impl Iterator<Item = Corner> {
+        self.corners.iter().copied().flatten().copied()
+    }
 }
 
 pub fn no_fixed(_: &mut Run, _: &Plan) -> Checked {
@@ -53,6 +69,8 @@ pub type Count = BTreeMap<u32, u64>;
 #[derive(Default)]
 pub struct Run {
     pub counts: BTreeMap<&'static str, Count>,
+    /// Accepted cases by subject and corner.
+    pub corners: BTreeMap<(&'static str, Corner), u64>,
     /// The fault to plant at the first case that it fits.
     pub fault: Option<Fault>,
 }
@@ -62,7 +80,7 @@ impl Run {
         let pending = self.fault.is_some();
         match held(case, &mut self.fault) {
             Ok(number) => {
-                *self.counts.entry(case.name()).or_default().entry(number).or_default() += 1;
+                self.count(case, number);
                 Ok(())
             }
             Err(what) if pending && self.fault.is_none() => Err(Difference(what)),
@@ -71,5 +89,24 @@ impl Run {
                 Err(Difference(format!("{}: {what}\n{}", case.name(), case.tell())))
             }
         }
+    }
+
+    fn count<C: Case>(&mut self, case: &C, number: u32) {
+        *self.counts.entry(case.name()).or_default().entry(number).or_default() += 1;
+        if number == 0 {
+            for corner in case.corners() {
+                *self.corners.entry((case.name(), corner)).or_default() += 1;
+            }
+        }
+    }
+
+    /// The accepted cases of a subject at a corner.
+    pub fn at(&self, subject: &Subject, corner: Corner) -> u64 {
+        self.corners.get(&(subject.name, corner)).copied().unwrap_or(0)
+    }
+
+    /// The corners that a subject has to reach and has not.
+    pub fn unreached(&self, subject: &Subject, plan: &Plan) -> Vec<Corner> {
+        subject.corners().filter(|&corner| plan.asks(corner) && self.at(subject, corner) == 0).collect()
     }
 }

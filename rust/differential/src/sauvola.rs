@@ -1,7 +1,8 @@
 //! Sauvola's threshold.
 
 use crate::case::Buffer;
-use crate::fault::Fault::{Accepted, Beside, Byte, Past, Refusal, Refused, Source, SpoiltBuffer};
+use crate::corner::{self, Corner, LARGEST_RADIUS};
+use crate::fault;
 use crate::guard::Guarded;
 use crate::layouts::{sides, EDGES};
 use crate::levels;
@@ -16,10 +17,6 @@ use qr_lab_imgproc::ImgProcResult;
 
 #[derive(Clone, Copy, Debug, PartialEq, Eq)]
 pub struct Sauvola(pub SauvolaConfig);
-
-/// The Rust's sums with a radius wrap near 2^64, so it is asked up to here. Beyond, document 01's clipped window is
-/// the whole picture, as it is here.
-const LARGEST_ASKED: usize = 65_536;
 
 impl Operator for Sauvola {
     type Word = u64;
@@ -45,7 +42,8 @@ impl Operator for Sauvola {
 
     fn rust(&self, src: Gray8View<'_>, dst: Gray8ViewMut<'_>) -> ImgProcResult<()> {
         let config = theirs::SauvolaConfig {
-            radius: self.0.radius.min(LARGEST_ASKED),
+            // Beyond, document 01's clipped window is the whole picture, as it is there.
+            radius: self.0.radius.min(LARGEST_RADIUS),
             k_milli: self.0.k_milli,
             dynamic_range: self.0.dynamic_range,
             dark_value: self.0.dark_value,
@@ -56,6 +54,10 @@ impl Operator for Sauvola {
 
     fn comparisons(&self, _: usize, _: usize) -> Result<u64, String> {
         Ok(0)
+    }
+
+    fn corners(&self, _: usize, _: usize) -> Vec<Corner> {
+        corner::radius(self.0.radius)
     }
 
     fn simpler(&self) -> Vec<Self> {
@@ -84,8 +86,8 @@ pub fn settings(rng: &mut Rng) -> Sauvola {
         0..=3 => rng.within(1, 9),
         4..=5 => rng.within(1, 70),
         6 => rng.within(4090, 4100),
-        7 => rng.within(1, LARGEST_ASKED),
-        8 => LARGEST_ASKED - rng.below(2),
+        7 => rng.within(1, LARGEST_RADIUS),
+        8 => LARGEST_RADIUS - rng.below(2),
         _ => rng.pick(&EDGES).max(1),
     };
     let k_milli = match rng.below(8) {
@@ -131,7 +133,7 @@ fn fixed(run: &mut Run, plan: &Plan) -> Checked {
         (usual.radius, usual.k_milli, usual.dynamic_range, usual.dark_value, usual.light_value),
         (rust.radius, rust.k_milli, rust.dynamic_range, rust.dark_value, rust.light_value),
     )?;
-    for radius in [1, 2, 65_536] {
+    for radius in [1, 2, LARGEST_RADIUS] {
         for (k_milli, dynamic_range) in [(200, 128), (0, 1), (1000, 1), (1000, 128), (500, u32::MAX)] {
             let op = Sauvola(SauvolaConfig { radius, k_milli, dynamic_range, ..usual });
             let pixels = plan.two_levels.min(9);
@@ -155,7 +157,7 @@ fn fixed(run: &mut Run, plan: &Plan) -> Checked {
         shapes.push((4096, 4096));
     }
     for (width, height) in shapes {
-        for radius in [1, 8, 4095, 65_536] {
+        for radius in [1, 8, 4095, LARGEST_RADIUS] {
             let op = Sauvola(SauvolaConfig { radius, ..usual });
             let src = u8::noise(width * height, radius as u64);
             run.case(&Through::packed(op, src, width, height, 3))?;
@@ -170,19 +172,8 @@ fn fixed(run: &mut Run, plan: &Plan) -> Checked {
 pub const SUBJECTS: &[Subject] = &[Subject {
     name: "sauvola_into",
     refuses: &[1, 2, 3, 4, 5, 7, 8],
-    faults: &[
-        Byte,
-        Beside,
-        Source,
-        Refusal,
-        Accepted,
-        Refused,
-        SpoiltBuffer(0),
-        SpoiltBuffer(1),
-        SpoiltBuffer(2),
-        Past(1),
-        Past(2),
-    ],
+    corners: &[corner::PICTURE, corner::RADIUS],
+    faults: fault::writing(2),
     round: 60_000,
     random,
     fixed,

@@ -1,6 +1,7 @@
 //! The one driver of every call that takes a picture, a destination, settings and a workspace.
 
 use crate::case::{listed, Buffer, Case, Expected, Left, Outcome, Places};
+use crate::corner::{self, Corner};
 use crate::document;
 use crate::guard::Guarded;
 use crate::layouts::{good, needed, picture, spoil};
@@ -32,6 +33,8 @@ pub trait Operator: Clone + Debug {
     fn rust(&self, src: Gray8View<'_>, dst: Gray8ViewMut<'_>) -> ImgProcResult<()>;
     /// The comparisons of an accepted call; 0 where it gives none.
     fn comparisons(&self, width: usize, height: usize) -> Result<u64, String>;
+    /// The corners that its settings stand at over a picture of these sides.
+    fn corners(&self, width: usize, height: usize) -> Vec<Corner>;
     fn simpler(&self) -> Vec<Self>;
     fn buffer(workspace: Guarded<Self::Word>) -> Buffer;
 }
@@ -175,6 +178,11 @@ impl<O: Operator> Case for Through<O> {
             beside: if padded { Some((1, self.d.width)) } else { tail.then(|| (1, self.dst.len() - 1)) },
             source: Some((0, self.src.len() / 2)),
         }
+    }
+
+    fn corners(&self) -> Vec<Corner> {
+        let Geometry { width, height, .. } = self.s;
+        [corner::picture(width, height), self.op.corners(width, height)].concat()
     }
 
     fn smaller(&self) -> Vec<Self> {

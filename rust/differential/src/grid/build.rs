@@ -1,6 +1,7 @@
 //! `tile_grid_build` against the Rust's `TileThresholdGrid::build`.
 
 use crate::case::{listed, Buffer, Case, Expected, Left, Outcome, Places};
+use crate::corner::{self, Corner, LARGEST_OFFSET};
 use crate::document;
 use crate::guard::Guarded;
 use crate::rng::{Rng, Word};
@@ -9,9 +10,6 @@ use imgproc::grid::{self as ours, flat, TileThresholdConfig, TileThresholdMethod
 use imgproc::{Geometry, Refusal};
 use qr_lab_imgproc::threshold as theirs;
 use std::borrow::Cow;
-
-/// The Rust's sum of base and offset overflows above; the port keeps the true sum.
-const LARGEST_ASKED: i16 = 32_512;
 
 #[derive(Clone)]
 pub struct Build {
@@ -59,7 +57,7 @@ impl Build {
             tile_width: self.config.tile_width,
             tile_height: self.config.tile_height,
             neighborhood_radius: self.config.neighborhood_radius,
-            threshold_offset: if offset > LARGEST_ASKED { 0 } else { offset },
+            threshold_offset: if offset > LARGEST_OFFSET { 0 } else { offset },
             contrast_floor: self.config.contrast_floor,
             method,
         };
@@ -72,7 +70,7 @@ impl Build {
             return Err(document::GRID_BUFFER_TOO_SMALL);
         }
         let mut thresholds = grid.thresholds().to_vec();
-        if offset > LARGEST_ASKED {
+        if offset > LARGEST_OFFSET {
             // By document 01: base and offset are added without loss, then clipped.
             for base in &mut thresholds {
                 *base = (i32::from(*base) + i32::from(offset)).clamp(0, 255) as u8;
@@ -173,6 +171,11 @@ impl Case for Build {
             beside: (self.thresholds > tiles).then_some((1, tiles)),
             source: Some((0, self.src.len() / 2)),
         }
+    }
+
+    fn corners(&self) -> Vec<Corner> {
+        let Geometry { width, height, .. } = self.g;
+        [corner::picture(width, height), corner::grid(&self.config, width, height)].concat()
     }
 
     fn smaller(&self) -> Vec<Self> {

@@ -1,7 +1,8 @@
 //! Settings and pictures for grids.
 
 use super::build::Build;
-use crate::layouts::{picture, sides, spoil, EDGES};
+use crate::corner::{LARGEST_OFFSET, LARGEST_RADIUS};
+use crate::layouts::{largest, picture, sides, spoil, EDGES};
 use crate::levels;
 use crate::rng::{Rng, Word};
 use crate::run::{same_defaults, Checked, Plan, Run};
@@ -13,6 +14,9 @@ const KS: [f64; 14] =
     [0.2, 0.5, 1.0, 0.0, -0.0, -0.3, 3.5, 1e-310, f64::MIN_POSITIVE, 1e300, f64::MAX, f64::MIN, -1e-5, 0.34];
 const RANGES: [f64; 11] = [128.0, 127.5, 1.0, 0.25, 255.0, 1e9, 5e-324, f64::MIN_POSITIVE, 1e-300, f64::MAX, 100.0];
 const REFUSED: [f64; 3] = [f64::NAN, f64::INFINITY, f64::NEG_INFINITY];
+/// The methods of the fixed cases.
+const METHODS: [TileThresholdMethod; 2] =
+    [TileThresholdMethod::Midrange, TileThresholdMethod::Sauvola { k: 0.2, dynamic_range: 128.0 }];
 
 fn any_method(rng: &mut Rng) -> TileThresholdMethod {
     if rng.one_in(3) {
@@ -44,11 +48,27 @@ pub fn settings(rng: &mut Rng, width: usize, height: usize) -> TileThresholdConf
             0..=1 => 0,
             2 => rng.below(600) as i16 - 300,
             3 => rng.next() as i16,
-            _ => rng.pick(&[i16::MIN, -255, 255, 32_511, 32_512, 32_513, i16::MAX]),
+            _ => rng.pick(&[i16::MIN, -255, 255, 32_511, LARGEST_OFFSET, 32_513, i16::MAX]),
         },
         contrast_floor: rng.pick(&[0, 1, 12, 12, 100, 255, rng.clone().byte()]),
         method: any_method(rng),
     }
+}
+
+/// Settings at every corner and every combination of corners.
+pub fn at_corners(usual: TileThresholdConfig, width: usize, height: usize) -> Vec<TileThresholdConfig> {
+    let few = (width.div_ceil(3), height.div_ceil(2));
+    let sides = [few, (width + 1, height + 1), (usize::MAX, few.1), (few.0, usize::MAX), (usize::MAX, usize::MAX)];
+    let mut list = Vec::new();
+    for (tile_width, tile_height) in sides {
+        for neighborhood_radius in [0, 1, LARGEST_RADIUS] {
+            for threshold_offset in [i16::MIN, 0, LARGEST_OFFSET] {
+                let sides = TileThresholdConfig { tile_width, tile_height, ..usual };
+                list.push(TileThresholdConfig { neighborhood_radius, threshold_offset, ..sides });
+            }
+        }
+    }
+    list
 }
 
 pub fn random(run: &mut Run, rng: &mut Rng) -> Checked {
@@ -88,8 +108,7 @@ pub fn fixed(run: &mut Run, plan: &Plan) -> Checked {
     let midrange =
         (usual.method == TileThresholdMethod::Midrange, rust.method == theirs::TileThresholdMethod::Midrange);
     same_defaults("tile_grid_build", midrange, (true, true))?;
-    let sauvola = TileThresholdMethod::Sauvola { k: 0.2, dynamic_range: 128.0 };
-    for method in [TileThresholdMethod::Midrange, sauvola] {
+    for method in METHODS {
         for (tile_width, tile_height, neighborhood_radius) in [(1, 1, 0), (1, 1, 1), (2, 2, 0), (2, 1, 1), (16, 16, 1)]
         {
             let config = TileThresholdConfig { tile_width, tile_height, neighborhood_radius, method, ..usual };
@@ -101,18 +120,50 @@ pub fn fixed(run: &mut Run, plan: &Plan) -> Checked {
     // Every pair of samples as minimum and maximum of one tile.
     for low in 0..=255 {
         for high in low..=255 {
-            for method in [TileThresholdMethod::Midrange, sauvola] {
+            for method in METHODS {
                 let config = TileThresholdConfig { method, ..usual };
                 run.case(&Build::exact(vec![low, high], Geometry::packed(2, 1), config, 6))?;
             }
         }
     }
     for (width, height) in [(4096, 1), (1, 4096), (640, 480)] {
-        for method in [TileThresholdMethod::Midrange, sauvola] {
+        for method in METHODS {
             let src = u8::noise(width * height, 7);
             let config = TileThresholdConfig { method, ..usual };
             run.case(&Build::exact(src, Geometry::packed(width, height), config, 8))?;
         }
+    }
+    for method in METHODS {
+        let usual = TileThresholdConfig { method, ..usual };
+        small_at_corners(run, usual)?;
+        if plan.large {
+            largest_at_corners(run, usual)?;
+        }
+    }
+    Ok(())
+}
+
+/// Every corner of the settings over small pictures, of which the darkest and the lightest give the end bases.
+fn small_at_corners(run: &mut Run, usual: TileThresholdConfig) -> Checked {
+    for (width, height) in [(1, 1), (7, 5), (40, 30)] {
+        let g = Geometry::packed(width, height);
+        for src in [u8::noise(g.area(), 9), vec![0; g.area()], vec![255; g.area()]] {
+            for config in at_corners(usual, width, height) {
+                run.case(&Build::exact(src.clone(), g, config, 10))?;
+            }
+        }
+    }
+    Ok(())
+}
+
+/// The largest picture with usual tiles, and as one tile with the largest sums.
+fn largest_at_corners(run: &mut Run, usual: TileThresholdConfig) -> Checked {
+    let (src, g) = largest(11);
+    run.case(&Build::exact(src, g, usual, 12))?;
+    let all = TileThresholdConfig { tile_width: usize::MAX, tile_height: usize::MAX, ..usual };
+    for threshold_offset in [i16::MIN, LARGEST_OFFSET] {
+        let config = TileThresholdConfig { neighborhood_radius: LARGEST_RADIUS, threshold_offset, ..all };
+        run.case(&Build::exact(vec![255; g.area()], g, config, 13))?;
     }
     Ok(())
 }

@@ -1,15 +1,16 @@
 //! `threshold_at`, `is_skip` and `row_all_skip` against the Rust's grid.
 
-use super::make::settings;
+use super::make::{at_corners, settings};
 use crate::case::{listed, Buffer, Case, Expected, Left, Outcome, Places};
+use crate::corner::{self, Corner, LARGEST_OFFSET};
 use crate::document;
 use crate::guard::Guarded;
-use crate::layouts::{picture, sides, EDGES};
-use crate::rng::Rng;
-use crate::run::{Checked, Run};
+use crate::layouts::{largest, picture, sides, EDGES};
+use crate::rng::{Rng, Word};
+use crate::run::{Checked, Plan, Run};
 use crate::rust;
-use imgproc::grid::{self as ours, flat, Grid, TileThresholdMethod};
-use imgproc::Refusal;
+use imgproc::grid::{self as ours, flat, Grid, TileThresholdConfig, TileThresholdMethod};
+use imgproc::{Geometry, Refusal};
 use qr_lab_imgproc::threshold as theirs;
 use std::borrow::Cow;
 use std::rc::Rc;
@@ -34,7 +35,45 @@ struct Query {
     rust: Option<Rc<theirs::TileThresholdGrid>>,
 }
 
+/// The Rust's grid of a picture with these settings.
+fn built(src: &[u8], g: Geometry, config: TileThresholdConfig) -> theirs::TileThresholdGrid {
+    let method = match config.method {
+        TileThresholdMethod::Midrange => theirs::TileThresholdMethod::Midrange,
+        TileThresholdMethod::Sauvola { k, dynamic_range } => theirs::TileThresholdMethod::Sauvola { k, dynamic_range },
+    };
+    let config = theirs::TileThresholdConfig {
+        tile_width: config.tile_width,
+        tile_height: config.tile_height,
+        neighborhood_radius: config.neighborhood_radius,
+        threshold_offset: config.threshold_offset.min(LARGEST_OFFSET),
+        contrast_floor: config.contrast_floor,
+        method,
+    };
+    let view = rust::view(src, g).expect("the layout is good");
+    theirs::TileThresholdGrid::build(view, config).expect("the settings are good")
+}
+
 impl Query {
+    /// At the first pixel of the Rust's grid of a picture; `skipped` gives the byte of each skipped tile, any but 0.
+    fn new(
+        call: Call, src: &[u8], g: Geometry, config: TileThresholdConfig, mut skipped: impl FnMut() -> u8,
+    ) -> Self {
+        let built = built(src, g, config);
+        let tiles = match call {
+            Call::ThresholdAt => built.thresholds().to_vec(),
+            _ => built.skip_mask().iter().map(|&skip| if skip { skipped() } else { 0 }).collect(),
+        };
+        let grid = Grid {
+            width: g.width,
+            height: g.height,
+            tile_width: config.tile_width,
+            tile_height: config.tile_height,
+            tiles_x: built.tiles_x(),
+            tiles_y: built.tiles_y(),
+        };
+        Self { call, grid, tiles, x: 0, y: 0, value: 0, rust: Some(Rc::new(built)) }
+    }
+
     /// The number and the value by document 01, in its order: sizes 7, buffer 10, place 9.
     fn decided(&self) -> Result<u8, u32> {
         let Grid { width, height, tile_width, tile_height, tiles_x, tiles_y } = self.grid;
@@ -119,6 +158,11 @@ impl Case for Query {
         Places { source: Some((0, self.tiles.len() / 2)), ..Places::default() }
     }
 
+    fn corners(&self) -> Vec<Corner> {
+        let Grid { width, height, tile_width, tile_height, .. } = self.grid;
+        [corner::picture(width, height), corner::tile(tile_width, tile_height, width, height)].concat()
+    }
+
     fn smaller(&self) -> Vec<Self> {
         let mut list = Vec::new();
         for (x, y) in [(self.x / 2, self.y), (self.x, self.y / 2)] {
@@ -138,44 +182,18 @@ pub fn random(run: &mut Run, rng: &mut Rng, call: Call) -> Checked {
     let (width, height) = sides(rng, 16);
     let (src, g) = picture(rng, width, height);
     let config = settings(rng, width, height);
-    let method = match config.method {
-        TileThresholdMethod::Midrange => theirs::TileThresholdMethod::Midrange,
-        TileThresholdMethod::Sauvola { k, dynamic_range } => theirs::TileThresholdMethod::Sauvola { k, dynamic_range },
-    };
-    let config = theirs::TileThresholdConfig {
-        tile_width: config.tile_width,
-        tile_height: config.tile_height,
-        neighborhood_radius: config.neighborhood_radius,
-        threshold_offset: config.threshold_offset.min(32_512),
-        contrast_floor: config.contrast_floor,
-        method,
-    };
-    let view = rust::view(&src, g).ok().expect("the layout is good");
-    let built = theirs::TileThresholdGrid::build(view, config).expect("the settings are good");
-    // Every byte but 0 is skipped.
-    let mut tiles: Vec<u8> = match call {
-        Call::ThresholdAt => built.thresholds().to_vec(),
-        _ => built.skip_mask().iter().map(|&skip| if skip { rng.byte().max(1) } else { 0 }).collect(),
-    };
-    tiles.extend((0..rng.below(3) * 4).map(|_| rng.byte()));
-    let mut grid = Grid {
-        width,
-        height,
-        tile_width: config.tile_width,
-        tile_height: config.tile_height,
-        tiles_x: built.tiles_x(),
-        tiles_y: built.tiles_y(),
-    };
-    let asked = grid;
+    let mut case = Query::new(call, &src, g, config, || rng.byte().max(1));
+    case.tiles.extend((0..rng.below(3) * 4).map(|_| rng.byte()));
     let place = |rng: &mut Rng, side: usize| match rng.below(10) {
         0 => side,
         1 => side - 1,
         2 if rng.one_in(4) => rng.pick(&EDGES),
         _ => rng.below(side),
     };
-    let (x, y) = (place(rng, width), place(rng, height));
-    let mut rust = Some(Rc::new(built));
+    (case.x, case.y) = (place(rng, width), place(rng, height));
     if rng.one_in(5) {
+        let asked = case.grid;
+        let (grid, tiles) = (&mut case.grid, &mut case.tiles);
         match rng.below(9) {
             0 => grid.width = rng.pick(&EDGES),
             1 => grid.height = rng.pick(&EDGES),
@@ -187,7 +205,36 @@ pub fn random(run: &mut Run, rng: &mut Rng, call: Call) -> Checked {
             6 => (grid.tiles_x, grid.tiles_y) = (grid.tiles_y, grid.tiles_x),
             _ => tiles.truncate(rng.below(tiles.len())),
         }
-        rust = rust.filter(|_| grid == asked);
+        case.rust = case.rust.filter(|_| case.grid == asked);
     }
-    run.case(&Query { call, grid, tiles, x, y, value: rng.byte(), rust })
+    case.value = rng.byte();
+    run.case(&case)
+}
+
+/// Grids at the corners, of small pictures and of the largest.
+pub fn fixed(run: &mut Run, plan: &Plan, call: Call) -> Checked {
+    let usual = TileThresholdConfig::default();
+    for (width, height) in [(1, 1), (7, 5), (40, 30)] {
+        let g = Geometry::packed(width, height);
+        for config in at_corners(usual, width, height) {
+            ends(run, call, u8::noise(g.area(), 14), g, config)?;
+        }
+    }
+    if plan.large {
+        let (src, g) = largest(15);
+        ends(run, call, src, g, usual)?;
+    }
+    Ok(())
+}
+
+/// Asks at the ends of the picture and just outside. Its lower half is made flat, so that tiles are skipped there.
+fn ends(run: &mut Run, call: Call, mut src: Vec<u8>, g: Geometry, config: TileThresholdConfig) -> Checked {
+    src[g.height / 2 * g.stride..].fill(100);
+    let case = Query::new(call, &src, g, config, || 1);
+    for x in [0, g.width - 1, g.width] {
+        for y in [0, g.height - 1, g.height] {
+            run.case(&Query { x, y, ..case.clone() })?;
+        }
+    }
+    Ok(())
 }

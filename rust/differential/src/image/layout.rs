@@ -1,6 +1,7 @@
 //! `validate_layout` against the Rust's `Gray8View::new`.
 
 use crate::case::{Case, Expected, Outcome, Places};
+use crate::corner::{self, Corner};
 use crate::document;
 use crate::layouts::{good, spoil, EDGES};
 use crate::rng::Rng;
@@ -62,6 +63,10 @@ impl Case for Layout {
 
     fn places(&self) -> Places {
         Places::default()
+    }
+
+    fn corners(&self) -> Vec<Corner> {
+        corner::picture(self.g.width, self.g.height)
     }
 
     fn smaller(&self) -> Vec<Self> {

@@ -1,11 +1,12 @@
 //! `get`, `set` and `row` against the Rust's views.
 
 use crate::case::{listed, Buffer, Case, Expected, Left, Outcome, Places};
+use crate::corner::{self, Corner};
 use crate::document;
 use crate::guard::Guarded;
-use crate::layouts::{good, needed, sides, spoil, EDGES};
+use crate::layouts::{good, largest, needed, sides, spoil, EDGES};
 use crate::rng::{Rng, Word};
-use crate::run::{Checked, Run};
+use crate::run::{Checked, Plan, Run};
 use crate::rust;
 use imgproc::image::{self, flat};
 use imgproc::{Geometry, Refusal};
@@ -157,6 +158,10 @@ impl Case for Asked {
         }
     }
 
+    fn corners(&self) -> Vec<Corner> {
+        corner::picture(self.g.width, self.g.height)
+    }
+
     fn smaller(&self) -> Vec<Self> {
         let mut list = Vec::new();
         let g = self.g;
@@ -219,4 +224,16 @@ pub fn random(run: &mut Run, rng: &mut Rng, call: Call) -> Checked {
     debug_assert!(document::layout(data.len(), g) != 0 || needed(g) <= data.len());
     let out = u8::noise(room, rng.next());
     run.case(&Asked { call, data, g, x, y, value: rng.byte(), out })
+}
+
+/// The ends of the largest picture.
+pub fn fixed(run: &mut Run, plan: &Plan, call: Call) -> Checked {
+    if plan.large {
+        let (data, g) = largest(16);
+        for (x, y) in [(0, 0), (g.width - 1, g.height - 1)] {
+            let out = u8::noise(g.width, 17);
+            run.case(&Asked { call, data: data.clone(), g, x, y, value: 18, out })?;
+        }
+    }
+    Ok(())
 }

@@ -1,11 +1,12 @@
 //! `pack` and `unpack` against the rows that the Rust's views give.
 
 use crate::case::{listed, Buffer, Case, Expected, Left, Outcome, Places};
+use crate::corner::{self, Corner};
 use crate::document;
 use crate::guard::Guarded;
-use crate::layouts::{good, needed, sides, spoil, EDGES};
+use crate::layouts::{good, largest, needed, sides, spoil, EDGES};
 use crate::rng::{Rng, Word};
-use crate::run::{Checked, Run};
+use crate::run::{Checked, Plan, Run};
 use crate::rust;
 use imgproc::image::{self, flat};
 use imgproc::{Geometry, Refusal};
@@ -107,6 +108,10 @@ impl Case for Plane {
         }
     }
 
+    fn corners(&self) -> Vec<Corner> {
+        corner::picture(self.g.width, self.g.height)
+    }
+
     fn smaller(&self) -> Vec<Self> {
         let mut list = Vec::new();
         let g = self.g;
@@ -158,4 +163,14 @@ pub fn random(run: &mut Run, rng: &mut Rng, pack: bool) -> Checked {
     }
     let workspace = u8::noise(room, rng.next());
     run.case(&Plane { pack, picture, g, workspace, at })
+}
+
+/// The largest picture.
+pub fn fixed(run: &mut Run, plan: &Plan, pack: bool) -> Checked {
+    if plan.large {
+        let (picture, g) = largest(19);
+        let workspace = u8::noise(g.area() + 5, 20);
+        run.case(&Plane { pack, picture, g, workspace, at: 5 })?;
+    }
+    Ok(())
 }

@@ -1,6 +1,8 @@
 //! `reading` against division, opening, grid and threshold of the Rust, one after the other.
 
+use super::shrink;
 use crate::case::{listed, Buffer, Case, Expected, Left, Outcome, Places};
+use crate::corner::{self, Corner, LARGEST_OFFSET, LARGEST_RADIUS};
 use crate::document;
 use crate::guard::Guarded;
 use crate::layouts::needed;
@@ -14,11 +16,6 @@ use qr_lab_imgproc::illumination::{background_divide_into, BackgroundDivideConfi
 use qr_lab_imgproc::morphology::{grayscale_open_into, MorphologyWorkspace};
 use qr_lab_imgproc::threshold::{self as theirs, sauvola_into, SauvolaConfig, ThresholdWorkspace, TileThresholdGrid};
 use std::borrow::Cow;
-
-/// The Rust's sum of base and offset overflows above. A reading looks at the skips only, which have no offset in them.
-const LARGEST_OFFSET: i16 = 32_512;
-/// The Rust's sums with a radius wrap near 2^64; beyond this one the clipped window is the whole picture, as it is here.
-const LARGEST_RADIUS: usize = 65_536;
 
 #[derive(Clone)]
 pub struct Reading {
@@ -90,6 +87,7 @@ impl Reading {
             tile_width: grid.tile_width,
             tile_height: grid.tile_height,
             neighborhood_radius: grid.neighborhood_radius,
+            // A reading looks at the skips only, which have no offset in them.
             threshold_offset: grid.threshold_offset.min(LARGEST_OFFSET),
             contrast_floor: grid.contrast_floor,
             method: match self.method {
@@ -104,6 +102,7 @@ impl Reading {
     fn sauvola(&self) -> SauvolaConfig {
         let sauvola = self.config.sauvola;
         SauvolaConfig {
+            // Beyond, the clipped window is the whole picture, as it is there.
             radius: sauvola.radius.min(LARGEST_RADIUS),
             k_milli: sauvola.k_milli,
             dynamic_range: sauvola.dynamic_range,
@@ -274,43 +273,20 @@ impl Case for Reading {
         }
     }
 
+    fn corners(&self) -> Vec<Corner> {
+        let (Geometry { width, height, .. }, config) = (self.s, &self.config);
+        [
+            corner::picture(width, height),
+            corner::element(config.division.structuring_element, width, height),
+            corner::kernel(config.opening_kernel, width, height),
+            corner::grid(&config.grid, width, height),
+            corner::radius(config.sauvola.radius),
+        ]
+        .concat()
+    }
+
     fn smaller(&self) -> Vec<Self> {
-        let Geometry { width, height, stride } = self.s;
-        let mut list = Vec::new();
-        if document::layout(self.src.len(), self.s) == 0 && self.method <= 1 {
-            let config = self.with_method();
-            for (x, y, w, h) in [
-                (0, 0, width / 2, height),
-                (0, 0, width, height / 2),
-                (0, 0, width - 1, height),
-                (0, 0, width, height - 1),
-                (1, 0, width - 1, height),
-                (0, 1, width, height - 1),
-            ] {
-                if w > 0 && h > 0 && self.config.grid.tile_width > 0 && self.config.grid.tile_height > 0 {
-                    let rows = (y..y + h).flat_map(|row| self.src[row * stride + x..][..w].iter().copied());
-                    list.push(Self::packed(config, rows.collect(), w, h, self.seed));
-                }
-            }
-            if width * height <= 64 {
-                for i in (0..width * height).map(|i| i / width * stride + i % width).filter(|&i| self.src[i] != 0) {
-                    for value in [0, self.src[i] / 2] {
-                        let mut next = self.clone();
-                        next.src[i] = value;
-                        list.push(next);
-                    }
-                }
-            }
-        }
-        let c = self.config;
-        let mut simpler = vec![c; 5];
-        simpler[0].division.structuring_element = 3.min(c.division.structuring_element);
-        simpler[1].opening_kernel = 3.min(c.opening_kernel);
-        simpler[2].grid.neighborhood_radius /= 2;
-        simpler[3].grid.contrast_floor /= 2;
-        simpler[4].sauvola.radius = c.sauvola.radius.div_ceil(2);
-        list.extend(simpler.into_iter().filter(|next| *next != c).map(|config| Self { config, ..self.clone() }));
-        list
+        shrink::smaller(self)
     }
 
     fn tell(&self) -> String {
@@ -328,16 +304,5 @@ impl Case for Reading {
             self.words,
             self.seed
         )
-    }
-}
-
-impl Reading {
-    /// The settings, with the method that stands beside them.
-    fn with_method(&self) -> ReadingConfig {
-        let method = match self.method {
-            0 => TileThresholdMethod::Midrange,
-            _ => TileThresholdMethod::Sauvola { k: self.k, dynamic_range: self.dynamic_range },
-        };
-        ReadingConfig { grid: TileThresholdConfig { method, ..self.config.grid }, ..self.config }
     }
 }

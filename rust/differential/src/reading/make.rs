@@ -1,9 +1,10 @@
 //! Settings and pictures for readings.
 
 use super::chain::{room, Reading};
+use crate::corner::{kernels, LARGEST_OFFSET, LARGEST_RADIUS};
 use crate::grid;
 use crate::illumination;
-use crate::layouts::{good, picture, sides, spoil, EDGES};
+use crate::layouts::{good, largest, picture, sides, spoil, EDGES};
 use crate::levels;
 use crate::rng::{Rng, Word};
 use crate::run::{Checked, Plan, Run};
@@ -144,5 +145,38 @@ pub fn fixed(run: &mut Run, plan: &Plan) -> Checked {
         run.case(&Reading::packed(ReadingConfig::default(), src.clone(), width, height, 10))?;
         run.case(&Reading::packed(unskipped, src, width, height, 10))?;
     }
+    small_at_corners(run, usual)?;
+    small_at_corners(run, unskipped)?;
+    if plan.large {
+        largest_at_corners(run, unskipped)?;
+    }
     Ok(())
+}
+
+/// Every corner of the settings over small pictures.
+fn small_at_corners(run: &mut Run, usual: ReadingConfig) -> Checked {
+    for (width, height) in [(1, 1), (7, 5), (20, 30)] {
+        let src = u8::noise(width * height, 11);
+        let [above, most] = kernels(width, height);
+        for (element, kernel) in [3, above, most].into_iter().flat_map(|k| [(k, 3), (k, above), (k, most)]) {
+            for grid in grid::at_corners(usual.grid, width, height) {
+                for radius in [1, LARGEST_RADIUS] {
+                    let mut config = ReadingConfig { opening_kernel: kernel, grid, ..usual };
+                    (config.division.structuring_element, config.sauvola.radius) = (element, radius);
+                    run.case(&Reading::packed(config, src.clone(), width, height, 12))?;
+                }
+            }
+        }
+    }
+    Ok(())
+}
+
+/// The largest picture with the largest of everything, the opening's kernel just above it.
+fn largest_at_corners(run: &mut Run, mut config: ReadingConfig) -> Checked {
+    let (src, g) = largest(13);
+    [config.opening_kernel, config.division.structuring_element] = kernels(g.width, g.height);
+    (config.grid.tile_width, config.grid.tile_height) = (usize::MAX, usize::MAX);
+    (config.grid.neighborhood_radius, config.grid.threshold_offset) = (LARGEST_RADIUS, LARGEST_OFFSET);
+    config.sauvola.radius = LARGEST_RADIUS;
+    run.case(&Reading::packed(config, src, g.width, g.height, 14))
 }
