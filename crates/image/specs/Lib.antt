@@ -8,4 +8,5 @@ pub mod Layouts
 pub mod LayoutLaws
 pub mod PlaneLaws
 pub mod PaintLaws
+pub mod PaintRows
 pub mod FillLaws

@@ -170,12 +170,3 @@ plane-more w f y at d r W fits long is =
     ap (λ (n : ℕ). overwritten (at + n) r (overwritten at (plane w y f) d)) (sym size)
     ∙ overwritten-more at (plane w y f) r d (omega arith)
     ∙ ap (λ (p : List ℕ). overwritten at p d) (plane-row w f y r W long is)
-
--- the same of a picture's own pixels
-pub packed-start : (s : List ℕ) (w st at : ℕ) (d : List ℕ) → overwritten at (packed s w 0 st) d ≡ d
-unfolding packed
-packed-start s w st at d = plane-start w (pixel s st) at d
-
-pub packed-more : (s : List ℕ) (w st y at : ℕ) (d r : List ℕ) → 0 < w → at + (y * w + w) ≤ length d → length r ≡ w → ((x : ℕ) → x < w → getD r x 0 ≡ pixel s st x y) → overwritten (at + y * w) r (overwritten at (packed s w y st) d) ≡ overwritten at (packed s w (y + 1) st) d
-unfolding packed
-packed-more s w st y at d r W fits long is = plane-more w (pixel s st) y at d r W fits long is

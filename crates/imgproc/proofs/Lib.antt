@@ -2,7 +2,6 @@
 pub mod CheckLaws
 pub mod Layouts
 pub mod Copies
-pub mod PaintRows
 pub mod Blocks
 pub mod Lanes
 pub mod Passes

@@ -2,38 +2,39 @@
 use borrow.Author.Needs.{needs}
 use native.Mathlib.Omega.{arith}
 use Prim.Native.Nat.{_+_, _-_, _*_, _≤_}
-use mathlib.Core.Path.{_≡_, sym, _∙_}
-use native.Mathlib.Nat.{add-sub-cancel-left}
+use mathlib.Core.Path.{_≡_, refl, sym, _∙_}
 use lib.ListN.{length}
 use denote.Ref.{now}
-use Rattle.image.specs.PlaneLaws.{length-part}
-use Rattle.image.proofs.Copies.{PaintedRows, unpack-start, unpack-same, unpack-done, from-fits, to-fits, from-long, unpack-next}
+use Rattle.image.specs.LayoutLaws.{row-within}
+use Rattle.image.specs.Plane.{part}
+use Rattle.image.specs.PaintRows.{RowsPainted, rows-start, rows-same, rows-done, row-fits, part-long, rows-next}
+use Rattle.image.proofs.Copies.{from-fits, from-long, from-pixel}
 use Rattle.image.proofs.unpack_rows.Statement.{statement}
 use Rattle.image.proofs.unpack_rows.Tie as tie
 
 abbrev Inv-loop : tie.InvT-loop
-Inv-loop workspace at dst₀ width height stride y₀ dst y = PaintedRows workspace at width height stride dst₀ dst y
+Inv-loop workspace at dst₀ width height stride y₀ dst y = RowsPainted (part at (width * height) workspace) width height stride dst₀ dst y
 
 abbrev μ-loop : tie.MeasureT-loop
 μ-loop workspace at dst₀ width height stride y₀ dst y = height - y
 
 loop-holds : tie.Need-loop-holds Inv-loop μ-loop
-loop-holds c = let a = c .before .before .args in unpack-start (now (a .workspace)) (a .at) (a .geometry) (now (a .dst))
+loop-holds c = rows-start _ _ _ _ _
 
 -- row y lies in the workspace
 from : (c : tie.In-loop Inv-loop μ-loop) → c .before .before .before .before .args .at + c .before .loop .y * c .before .before .before .before .args .geometry .width + c .before .before .before .before .args .geometry .width ≤ length (now (c .before .before .before .before .args .workspace))
 from c =
     let s = c .before .before .before .before in
     let a = s .args in
-    from-fits (now (a .workspace)) (a .at) (a .geometry) (now (a .dst)) (c .before .loop .y) (c .before .loop .inv) (s .pre .1) (s .pre .0) (c .loop-test .taken)
+    from-fits (now (a .workspace)) (a .at) (a .geometry .width) (a .geometry .height) (s .pre .1) (c .before .loop .y) (c .loop-test .taken)
 
 -- and in the destination
 to : (c : tie.In-loop Inv-loop μ-loop) → (c .before .loop .y * c .before .before .before .before .args .geometry .stride + c .before .before .before .before .args .geometry .width ≤ length (c .before .loop .dst)) × (length (c .before .loop .dst) ≡ length (now (c .before .before .before .before .args .dst)))
 to c =
     let s = c .before .before .before .before in
-    let a = s .args in (
-      to-fits (now (a .workspace)) (a .at) (a .geometry) (now (a .dst)) (c .before .loop .y) (c .before .loop .inv) (s .pre .1) (s .pre .0) (c .loop-test .taken),
-      unpack-same (now (a .workspace)) (a .at) (a .geometry) (now (a .dst)) (c .before .loop .y) (c .before .loop .inv),
+    let k = s .pre .0 in (
+      row-fits _ _ _ _ _ (c .before .loop .y) (c .before .loop .inv) (k .wide) (k .stride) (row-within k (c .before .loop .y) (c .loop-test .taken)),
+      rows-same _ _ _ _ _ (c .before .loop .y) (c .before .loop .inv),
     )
 
 mul-from : tie.Need-mul-from Inv-loop μ-loop
@@ -74,9 +75,10 @@ copy-row-requires c κs =
     let i = c .before .before in
     let s = i .before .before .before .before in
     let a = s .args in
-    let at = i .before .loop .y * a .geometry .stride in
-    from-long (now (a .workspace)) (a .at) (a .geometry) (now (a .dst)) (i .before .loop .y) (i .before .loop .inv) (s .pre .1) (s .pre .0) (i .loop-test .taken)
-    ∙ sym (rw (add-sub-cancel-left at (a .geometry .width)) (length-part at (a .geometry .width) (i .before .loop .dst) (to i .0)))
+    let k = s .pre .0 in
+    let y = i .before .loop .y in
+    from-long (now (a .workspace)) (a .at) (a .geometry .width) (a .geometry .height) (s .pre .1) y (i .loop-test .taken) refl
+    ∙ sym (part-long _ _ _ _ _ y (i .before .loop .inv) (k .wide) (k .stride) (row-within k y (i .loop-test .taken)))
 
 add-y : tie.Need-add-y Inv-loop μ-loop
 add-y c = let i = c .before .before .before .before .before in omega (arith, i .loop-test .taken, i .before .before .before .before .pre .0 .small-height)
@@ -90,17 +92,19 @@ loop-again c =
     let i = p .before .before .before in
     let s = i .before .before .before .before in
     let a = s .args in
-    unpack-next (now (a .workspace)) (a .at) (a .geometry) (now (a .dst)) (i .before .loop .y) (i .before .loop .inv) (s .pre .1) (s .pre .0) (i .loop-test .taken) (p .copy-row .ensures)
+    let k = s .pre .0 in
+    let y = i .before .loop .y in
+    let t = i .loop-test .taken in
+    rows-next _ _ _ _ _ y (i .before .loop .inv) (k .wide) (k .stride) (row-within k y t) (p .copy-row .last .1 .0)
+    (from-long (now (a .workspace)) (a .at) (a .geometry .width) (a .geometry .height) (s .pre .1) y t (p .copy-row .ensures))
+    (from-pixel (now (a .workspace)) (a .at) (a .geometry .width) (a .geometry .height) (s .pre .1) y t (p .copy-row .ensures))
+    t
 
 same-length : tie.Need-same-length Inv-loop μ-loop
-same-length c =
-    let a = c .before .before .before .before .args in
-    unpack-same (now (a .workspace)) (a .at) (a .geometry) (now (a .dst)) (c .before .loop .y) (c .before .loop .inv)
+same-length c = rows-same _ _ _ _ _ (c .before .loop .y) (c .before .loop .inv)
 
 returns : tie.Need-returns Inv-loop μ-loop
-returns c =
-    let a = c .before .before .before .before .args in
-    unpack-done (now (a .workspace)) (a .at) (a .geometry) (now (a .dst)) (c .before .loop .y) (c .before .loop .inv) (c .loop-test .left)
+returns c = rows-done _ _ _ _ _ (c .before .loop .y) (c .before .loop .inv) (c .loop-test .left)
 
 pub unpack-rows-spec : {M : Type 1} → statement M
 unpack-rows-spec =

@@ -8,7 +8,7 @@ use lib.ListN.{length}
 use denote.Ref.{now}
 use Rattle.image.specs.LayoutLaws.{area-small}
 use Rattle.imgproc.specs.Reading.{markedOver}
-use Rattle.imgproc.proofs.PaintRows.{RowsPainted, rows-start, rows-same, rows-done, row-fits, part-long, rows-next, row-within-as}
+use Rattle.image.specs.PaintRows.{RowsPainted, rows-start, rows-same, rows-done, row-fits, part-long, rows-next, row-within-as}
 use Rattle.imgproc.proofs.Judging.{RowsCounted, none-counted, next-counted, room-for-row, marked-pixel}
 use Rattle.imgproc.proofs.reading.judge_rows.Statement.{statement}
 use Rattle.imgproc.proofs.reading.judge_rows.Tie as tie

@@ -8,7 +8,7 @@ use lib.ListN.{length}
 use denote.Ref.{now}
 use Rattle.imgproc.specs.Sauvola.{binarised}
 use Rattle.imgproc.specs.Tables.{picture}
-use Rattle.imgproc.proofs.PaintRows.{RowsPainted, rows-start, rows-same, rows-done, row-fits, part-long, rows-next, row-within-as}
+use Rattle.image.specs.PaintRows.{RowsPainted, rows-start, rows-same, rows-done, row-fits, part-long, rows-next, row-within-as}
 use Rattle.imgproc.proofs.VerdictLaws.{binarised-pixel}
 use Rattle.imgproc.proofs.threshold.binarize_rows.Statement.{statement}
 use Rattle.imgproc.proofs.threshold.binarize_rows.Tie as tie

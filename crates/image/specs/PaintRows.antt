@@ -1,17 +1,16 @@
--- A destination painted row by row through parts that are lent to a call: what the loop keeps, and one law for each answer that it asks. Assumes nothing.
+-- A loop that paints a destination row by row, through parts that are lent to a call: what it keeps, and one law for each answer that it asks. Assumes nothing.
 use Prim.Native.Nat.{ℕ, _+_, _-_, _*_, _≤_, _<_}
-use native.Mathlib.Nat.{add-sub-cancel-left}
 use native.Mathlib.Omega.{arith}
 use mathlib.Core.Path.{_≡_, sym, ap, _∙_}
 use mathlib.Core.List.{List}
 use lib.ListN.{length, getD, take, drop}
 use borrow.Rule.Slice.PartMut.{putMid}
 use Rattle.image.specs.declared.Geometry.{Geometry}
 use Rattle.image.specs.Layout.{Kept}
 use Rattle.image.specs.LayoutLaws.{row-within}
 use Rattle.image.specs.Plane.{pixel, painted, overwritten}
-use Rattle.image.specs.PlaneLaws.{length-part}
-use Rattle.image.specs.PaintLaws.{put-part, length-painted, painted-none, painted-row}
+use Rattle.image.specs.PaintLaws.{length-painted, painted-none, painted-row}
+use Rattle.image.specs.FillLaws.{put-row, lent-row}
 
 -- the first y rows of the packed picture p, of w by h, stand in the destination l, which was d
 pub record RowsPainted (p : List ℕ) (w h st : ℕ) (d l : List ℕ) (y : ℕ) : Type 0 where
@@ -38,7 +37,7 @@ module _ (p : List ℕ) (w h st : ℕ) (d : List ℕ) where
       row-fits = omega (arith, rows-same)
 
       pub part-long : length (take (y * st + w - y * st) (drop (y * st) l)) ≡ w
-      part-long = rw (add-sub-cancel-left (y * st) w) (length-part (y * st) w l row-fits)
+      part-long = lent-row (y * st) w l row-fits
 
       pub rows-next :
           (r : List ℕ)
@@ -49,7 +48,7 @@ module _ (p : List ℕ) (w h st : ℕ) (d : List ℕ) where
       rows-next r long is t = record {
         upto = omega arith;
         is =
-            put-part (y * st) (y * st + w) l r (omega arith) (long ∙ sym (add-sub-cancel-left (y * st) w))
+            put-row (y * st) w l r long
             ∙ ap (overwritten (y * st) r) (o .is)
             ∙ painted-row p w st y d r ws (omega arith) fits long is;
       }
