@@ -15,7 +15,7 @@ pub mod VerdictLaws
 pub mod Answers
 pub mod Folds
 pub mod Writes
-pub mod Judging
+pub mod JudgeLaws
 pub mod ReadingRuns
 pub mod ReadingDone
 pub mod ReadingWays

@@ -12,13 +12,14 @@ use Rattle.image.specs.LayoutLaws.{area-small}
 use Rattle.image.specs.Plane.{packed, painted, part}
 use Rattle.imgproc.specs.declared.reading.ReadingConfig.{ReadingConfig}
 use Rattle.imgproc.specs.declared.reading.ReadingCounts.{ReadingCounts}
-use Rattle.imgproc.specs.declared.reading.Judged.{Judged}
-use Rattle.imgproc.specs.declared.reading.Judgement.{Judgement}
+use Rattle.imgproc.specs.declared.judging.Judged.{Judged}
+use Rattle.imgproc.specs.declared.judging.Judgement.{Judgement}
 use Rattle.imgproc.specs.declared.tally.Tally.{Tally}
 use Rattle.imgproc.specs.Reach.{sweepWalks, R}
 use Rattle.imgproc.specs.Walks.{sweep-walks}
 use Rattle.imgproc.specs.Grid.{tilesX, tilesY, skips}
-use Rattle.imgproc.specs.Reading.{isDark, isLight, isSkipped, openedOf, judgedOver, judged, pixels, readingOf, marked, markedOver, OpenReady, Opened, MarkReady, Marks, JudgeRoom, PictureJudged, ReadReady, ReadDone}
+use Rattle.imgproc.specs.Reading.{isDark, isLight, isSkipped, openedOf, judgedOver, judged, pixels, readingOf, marked}
+use Rattle.imgproc.specs.ReadingSteps.{markedOver, OpenReady, Opened, MarkReady, Marks, JudgeRoom, PictureJudged, ReadReady, ReadDone}
 
 -- the packed geometry of a picture
 abbrev pub packedAs : Geometry → Geometry

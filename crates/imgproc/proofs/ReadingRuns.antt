@@ -23,7 +23,7 @@ use Rattle.imgproc.specs.Division.{FlattenReady, Flattened}
 use Rattle.imgproc.specs.Grid.{tilesX, tilesY, skipOf, skips}
 use Rattle.imgproc.specs.Surface.{byteBy}
 use Rattle.imgproc.specs.Tiles.{Sized, Gathers, eachTile}
-use Rattle.imgproc.specs.Reading.{OpenReady, Opened, MarkReady, Marks, JudgeReady, JudgeRoom}
+use Rattle.imgproc.specs.ReadingSteps.{OpenReady, Opened, MarkReady, Marks, JudgeReady, JudgeRoom}
 use Rattle.imgproc.specs.Tables.{Tables}
 use Rattle.imgproc.proofs.surface.Tables.{skips-are}
 

@@ -21,7 +21,8 @@ use Rattle.imgproc.specs.GridCalls.{gridSettingsCheck, tileCount}
 use Rattle.imgproc.specs.GridLaws.{ceiling-small}
 use Rattle.imgproc.specs.Tables.{InRange}
 use Rattle.imgproc.specs.Tiles.{Sized}
-use Rattle.imgproc.specs.Reading.{readingSettings, readingRoom, readingCheck, Reads, ReadDone}
+use Rattle.imgproc.specs.Reading.{readingSettings, readingRoom, readingCheck, Reads}
+use Rattle.imgproc.specs.ReadingSteps.{ReadDone}
 use Rattle.imgproc.proofs.CheckLaws.{both-accepted, not-refused, neither}
 use Rattle.imgproc.proofs.DivisionRuns.{settings-say}
 use Rattle.imgproc.proofs.Answers.{in-range}

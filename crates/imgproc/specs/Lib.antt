@@ -24,6 +24,7 @@ pub mod GridLaws
 pub mod Surface
 pub mod GridCalls
 pub mod Reading
+pub mod ReadingSteps
 pub mod ReadingLaws
 pub mod Cases
 pub mod PicturesSauvola

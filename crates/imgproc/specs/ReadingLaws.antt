@@ -12,8 +12,8 @@ use Rattle.image.specs.Plane.{pixel, packed}
 use Rattle.image.specs.PlaneLaws.{plane-same, in-plane}
 use Rattle.imgproc.specs.declared.reading.ReadingConfig.{ReadingConfig}
 use Rattle.imgproc.specs.declared.reading.ReadingCounts.{ReadingCounts}
-use Rattle.imgproc.specs.declared.reading.Judgement.{Judgement}
-use Rattle.imgproc.specs.declared.reading.Judgement.the-variants.{Dark, Light, Skipped}
+use Rattle.imgproc.specs.declared.judging.Judgement.{Judgement}
+use Rattle.imgproc.specs.declared.judging.Judgement.the-variants.{Dark, Light, Skipped}
 use Rattle.imgproc.specs.Fold.{bit}
 use Rattle.imgproc.specs.Reach.{walk}
 use Rattle.imgproc.specs.Walks.{same-walk, walk-le, reading-below}

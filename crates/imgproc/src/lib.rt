@@ -2,6 +2,7 @@
 mod base;
 pub mod grid;
 pub mod illumination;
+pub mod judging;
 pub mod morphology;
 mod query;
 pub mod reading;

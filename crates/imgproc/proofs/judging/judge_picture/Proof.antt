@@ -6,8 +6,8 @@ use mathlib.Core.Path.{_≡_, sym, ap₂}
 use denote.Ref.{now}
 use Rattle.imgproc.specs.Grid.{tilesX, tilesY}
 use Rattle.imgproc.proofs.ReadingRuns.{prefix-long, prefix-kept, judge-ready}
-use Rattle.imgproc.proofs.reading.judge_picture.Statement.{statement}
-use Rattle.imgproc.proofs.reading.judge_picture.Tie as tie
+use Rattle.imgproc.proofs.judging.judge_picture.Statement.{statement}
+use Rattle.imgproc.proofs.judging.judge_picture.Tie as tie
 
 abbrev start : tie.After-tiles2 → tie.Start
 start t = t .before .before .before .before .before .before .before

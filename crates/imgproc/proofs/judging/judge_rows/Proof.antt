@@ -7,11 +7,11 @@ use mathlib.Core.List.{List}
 use lib.ListN.{length}
 use denote.Ref.{now}
 use Rattle.image.specs.LayoutLaws.{area-small}
-use Rattle.imgproc.specs.Reading.{markedOver}
+use Rattle.imgproc.specs.ReadingSteps.{markedOver}
 use Rattle.image.specs.PaintRows.{RowsPainted, rows-start, rows-same, rows-done, row-fits, part-long, rows-next, row-within-as}
-use Rattle.imgproc.proofs.Judging.{RowsCounted, none-counted, next-counted, room-for-row, marked-pixel}
-use Rattle.imgproc.proofs.reading.judge_rows.Statement.{statement}
-use Rattle.imgproc.proofs.reading.judge_rows.Tie as tie
+use Rattle.imgproc.proofs.JudgeLaws.{RowsCounted, none-counted, next-counted, room-for-row, marked-pixel}
+use Rattle.imgproc.proofs.judging.judge_rows.Statement.{statement}
+use Rattle.imgproc.proofs.judging.judge_rows.Tie as tie
 
 abbrev Inv-loop : tie.InvT-loop
 Inv-loop opened packed skips workspace at config dst₀ dst-geometry counts₀ y₀ dst counts y =

@@ -5,11 +5,11 @@ use Prim.Native.Nat.{ℕ, _+_, _-_, _≤_, _<_}
 use mathlib.Core.Path.{_≡_, refl, sym, _∙_, subst}
 use lib.ListN.{length, length-set}
 use denote.Ref.{now}
-use Rattle.imgproc.specs.declared.reading.Judgement.the-variants.{Dark, Light, Skipped}
-use Rattle.imgproc.specs.Reading.{PixelsJudged}
-use Rattle.imgproc.proofs.Judging.{none-judged, next-judged, count-small}
-use Rattle.imgproc.proofs.reading.judge_row.Statement.{statement}
-use Rattle.imgproc.proofs.reading.judge_row.Tie as tie
+use Rattle.imgproc.specs.declared.judging.Judgement.the-variants.{Dark, Light, Skipped}
+use Rattle.imgproc.specs.ReadingSteps.{PixelsJudged}
+use Rattle.imgproc.proofs.JudgeLaws.{none-judged, next-judged, count-small}
+use Rattle.imgproc.proofs.judging.judge_row.Statement.{statement}
+use Rattle.imgproc.proofs.judging.judge_row.Tie as tie
 
 abbrev Inv-loop : tie.InvT-loop
 Inv-loop opened packed skips workspace at config y out₀ sauvola counts₀ next₀ out counts next =

@@ -14,16 +14,17 @@ use Rattle.image.specs.declared.Geometry.{Geometry}
 use Rattle.image.specs.Plane.{packed, pixel, tabulate}
 use Rattle.image.specs.PlaneLaws.{length-tabulate, getD-tabulate, in-plane, packed-again, pixel-plane}
 use Rattle.imgproc.specs.declared.reading.ReadingConfig.{ReadingConfig}
-use Rattle.imgproc.specs.declared.reading.Judged.{Judged}
-use Rattle.imgproc.specs.declared.reading.Judgement.{Judgement}
-use Rattle.imgproc.specs.declared.reading.Judgement.the-variants.{Dark, Light, Skipped}
+use Rattle.imgproc.specs.declared.judging.Judged.{Judged}
+use Rattle.imgproc.specs.declared.judging.Judgement.{Judgement}
+use Rattle.imgproc.specs.declared.judging.Judgement.the-variants.{Dark, Light, Skipped}
 use Rattle.imgproc.specs.Fold.{bit}
 use Rattle.imgproc.specs.Reach.{ceiling, walk}
 use Rattle.imgproc.specs.Grid.{tilesX, tilesY, skipOf, skips}
 use Rattle.imgproc.specs.Tables.{picture}
 use Rattle.imgproc.specs.Sauvola.{thresholdAt, atOrBelow}
 use Rattle.imgproc.specs.Walks.{walk-more, walk-le}
-use Rattle.imgproc.specs.Reading.{isDark, isLight, isSkipped, byteOf, judgedOver, JudgeReady, Room, PixelsJudged, pixels, markedOver}
+use Rattle.imgproc.specs.Reading.{isDark, isLight, isSkipped, byteOf, judgedOver, pixels}
+use Rattle.imgproc.specs.ReadingSteps.{JudgeReady, Room, PixelsJudged, markedOver}
 use Rattle.imgproc.specs.ReadingLaws.{pixels-none, pixels-row, pixels-most}
 use Rattle.image.specs.FillLaws.{row-in-plane}
 

@@ -6,9 +6,9 @@ use mathlib.Core.Path.{_≡_, ap}
 use lib.ListN.{length}
 use denote.Ref.{now}
 use Rattle.imgproc.specs.Grid.{tilesX}
-use Rattle.imgproc.proofs.Judging.{tile-within, place-within, is-skipped, is-dark, is-light}
-use Rattle.imgproc.proofs.reading.judge.Statement.{statement}
-use Rattle.imgproc.proofs.reading.judge.Tie as tie
+use Rattle.imgproc.proofs.JudgeLaws.{tile-within, place-within, is-skipped, is-dark, is-light}
+use Rattle.imgproc.proofs.judging.judge.Statement.{statement}
+use Rattle.imgproc.proofs.judging.judge.Tie as tie
 
 tiles-requires : tie.Need-tiles-requires
 tiles-requires c κs = c .before .before .before .before .pre .0 .tile-width
