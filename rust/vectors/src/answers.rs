@@ -77,37 +77,78 @@ fn pictures(l: &mut List) {
     }
 }
 
-/// Inputs of any other form, two pixels to each where nothing else is said.
-const MALFORMED: [(&str, &[&[u8]]); 9] = [
-    ("nothing, and parts of the form", &[b"", b"P", b"P5", b"P5 ", b"P5 2", b"P5 2 ", b"P5 2 1", b"P5 2 1 255", b"P5 2 1 255\n"]),
-    ("a byte missing, and a byte too many", &[b"P5 2 1 255\n\x00", b"P5 2 1 255\n\x00\xc8\x00", b"P5 0 5 255\n\x00", b"P5 1 1 255\n\x00\n"]),
-    ("another kind of picture", &[b"P2 2 1 255\n\x00\xc8", b"P6 2 1 255\n\x00\xc8", b"p5 2 1 255\n\x00\xc8", b" P5 2 1 255\n\x00\xc8", b"\xef\xbb\xbfP5 2 1 255\n\x00\xc8"]),
+/// Inputs of another form, entire.
+const MALFORMED: [(&str, &[&str]); 4] = [
     (
-        "two spaces, a tab, a carriage return, a second line feed, a line feed for a space, a space before the line feed",
+        "nothing, and parts of the form",
+        &["", "P", "P5", "P5 ", "P5 2", "P5 2 ", "P5 2 1", "P5 2 1 255", "P5 2 1 255\n"],
+    ),
+    ("a byte missing, and a byte too many", &["P5 2 1 255\n0", "P5 2 1 255\n000", "P5 0 5 255\n0", "P5 1 1 255\n0\n"]),
+    ("two zeros for a side, and a side that would be 0 in fewer bits", &["P5 00 5 255\n", "P5 256 0 255\n"]),
+    ("sides above 60 that are empty", &["P5 61 0 255\n", "P5 0 61 255\n", "P5 600 0 255\n"]),
+];
+
+/// Headers of another form; two pixels follow.
+const HEADERS: [(&str, &[&str]); 7] = [
+    (
+        "another kind of picture",
+        &["P2 2 1 255\n", "P6 2 1 255\n", "p5 2 1 255\n", " P5 2 1 255\n", "\u{feff}P5 2 1 255\n"],
+    ),
+    (
+        "two spaces, a tab, a line feed for a space",
+        &["P5  2 1 255\n", "P5 2  1 255\n", "P5\t2 1 255\n", "P5\n2 1 255\n"],
+    ),
+    (
+        "a line feed or a space too many, a carriage return, no line feed",
+        &["P5 2 1\n255\n", "P5 2 1 255\n\n", "P5 2 1 255 \n", "P5 2 1 255\r\n", "P5 2 1 255 "],
+    ),
+    ("a comment", &["P5 # made\n2 1 255\n", "P5 2 1 255# \n", "#\nP5 2 1 255\n"]),
+    (
+        "leading zeros, signs, other digits",
         &[
-            b"P5  2 1 255\n\x00\xc8", b"P5 2  1 255\n\x00\xc8", b"P5\t2 1 255\n\x00\xc8", b"P5 2 1 255\r\n\x00\xc8",
-            b"P5 2 1 255\n\n\x00\xc8", b"P5\n2 1 255\n\x00\xc8", b"P5 2 1\n255\n\x00\xc8", b"P5 2 1 255 \n\x00\xc8", b"P5 2 1 255 \x00\xc8",
+            "P5 02 1 255\n",
+            "P5 2 01 255\n",
+            "P5 +2 1 255\n",
+            "P5 -2 1 255\n",
+            "P5 2.0 1 255\n",
+            "P5 0x2 1 255\n",
+            "P5 : 1 255\n",
+            "P5 / 1 255\n",
         ],
     ),
-    ("a comment", &[b"P5 # made\n2 1 255\n\x00\xc8", b"P5 2 1 255# \n\x00\xc8", b"#\nP5 2 1 255\n\x00\xc8"]),
-    ("leading zeros, signs, other digits", &[b"P5 02 1 255\n\x00\xc8", b"P5 2 01 255\n\x00\xc8", b"P5 00 5 255\n", b"P5 +2 1 255\n\x00\xc8", b"P5 -2 1 255\n\x00\xc8", b"P5 2.0 1 255\n\x00\xc8", b"P5 0x2 1 255\n\x00\xc8", b"P5 : 1 255\n\x00\xc8", b"P5 / 1 255\n\x00\xc8"]),
-    ("another largest sample", &[b"P5 2 1 254\n\x00\xc8", b"P5 2 1 256\n\x00\xc8", b"P5 2 1 0255\n\x00\xc8", b"P5 2 1 65535\n\x00\xc8", b"P5 2 1 25\n\x00\xc8", b"P5 2 1 2555\n\x00\xc8", b"P5 2 1 \n\x00\xc8"]),
     (
-        "sides that would be 2 and 1, or 0, in fewer bits",
+        "another largest sample",
         &[
-            b"P5 258 1 255\n\x00\xc8", b"P5 65538 1 255\n\x00\xc8", b"P5 4294967298 1 255\n\x00\xc8", b"P5 2 18446744073709551617 255\n\x00\xc8",
-            b"P5 18446744073709551618 1 255\n\x00\xc8", b"P5 340282366920938463463374607431768211458 1 255\n\x00\xc8", b"P5 256 0 255\n",
+            "P5 2 1 254\n",
+            "P5 2 1 256\n",
+            "P5 2 1 0255\n",
+            "P5 2 1 65535\n",
+            "P5 2 1 25\n",
+            "P5 2 1 2555\n",
+            "P5 2 1 \n",
         ],
     ),
-    ("sides above 60 that are empty", &[b"P5 61 0 255\n", b"P5 0 61 255\n", b"P5 600 0 255\n"]),
+    (
+        "sides that would be 2 and 1 in fewer bits",
+        &[
+            "P5 258 1 255\n",
+            "P5 65538 1 255\n",
+            "P5 4294967298 1 255\n",
+            "P5 2 18446744073709551617 255\n",
+            "P5 18446744073709551618 1 255\n",
+            "P5 340282366920938463463374607431768211458 1 255\n",
+        ],
+    ),
 ];
 
 fn malformed(l: &mut List) {
     for (what, inputs) in MALFORMED {
         l.comment(what);
-        for input in inputs {
-            refused(l, input, PROGRAM, 11);
-        }
+        inputs.iter().for_each(|input| refused(l, input.as_bytes(), PROGRAM, 11));
+    }
+    for (what, headers) in HEADERS {
+        l.comment(what);
+        headers.iter().for_each(|header| refused(l, &[header.as_bytes(), &[0, 200]].concat(), PROGRAM, 11));
     }
     l.comment("61 pixels in a row and in a column; 60 by 60 with a byte too many and with one missing");
     refused(l, &form(61, 1, &noise(61, 54)), PROGRAM, 11);
@@ -142,7 +183,9 @@ pub fn list() -> List {
     l.comment("Inputs of the program reading. Columns: input-length destination-length bytes words out-length line-length left,");
     l.comment("the input, the line. left is 1 where the destination and the workspaces stay as they were, and else 0.");
     l.comment("The counts are those of the published Rust, aukilabs/qr-lab at c99d6ca466, whose calls are made one after the other");
-    l.comment("(rust/vectors/src/chain.rs) with document 01's settings; which inputs are refused, and the numbers, are");
+    l.comment(
+        "(rust/vectors/src/chain.rs) with document 01's settings; which inputs are refused, and the numbers, are",
+    );
     l.comment("document 01's, and no program was asked. Made by");
     l.comment("cargo run --release -p vectors -- answers");
     pictures(&mut l);

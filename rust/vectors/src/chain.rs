@@ -4,7 +4,9 @@ use crate::picture::{Destination, Picture};
 use crate::walk;
 use qr_lab_imgproc::illumination::{background_divide_into, BackgroundDivideConfig, IlluminationWorkspace};
 use qr_lab_imgproc::morphology::{grayscale_open_into, MorphologyWorkspace};
-use qr_lab_imgproc::threshold::{sauvola_into, SauvolaConfig, ThresholdWorkspace, TileThresholdConfig, TileThresholdGrid};
+use qr_lab_imgproc::threshold::{
+    sauvola_into, SauvolaConfig, ThresholdWorkspace, TileThresholdConfig, TileThresholdGrid,
+};
 
 /// The settings of a reading: the Rust's own for each call, and the opening's kernel.
 #[derive(Clone, Copy)]
@@ -52,10 +54,12 @@ fn made(width: usize, height: usize, call: impl FnOnce(&mut Destination)) -> Pic
 pub fn read(picture: &Picture, destination: &mut Destination, settings: &Settings) -> Counts {
     let (width, height) = (picture.width, picture.height);
     let flattened = made(width, height, |to| {
-        background_divide_into(picture.view(), to.view(), &settings.division, &mut IlluminationWorkspace::default()).expect("accepted")
+        background_divide_into(picture.view(), to.view(), &settings.division, &mut IlluminationWorkspace::default())
+            .expect("accepted")
     });
     let opened = made(width, height, |to| {
-        grayscale_open_into(flattened.view(), to.view(), settings.opening_kernel, &mut MorphologyWorkspace::default()).expect("accepted")
+        grayscale_open_into(flattened.view(), to.view(), settings.opening_kernel, &mut MorphologyWorkspace::default())
+            .expect("accepted")
     });
     // Two values apart, so that dark and light are told from each other whatever bytes are asked for.
     let apart = SauvolaConfig { dark_value: 1, light_value: 0, ..settings.sauvola };

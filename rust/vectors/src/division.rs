@@ -18,8 +18,17 @@ fn divide(list: &mut List, picture: &Picture, stride: usize, tail: usize, settin
     let comparisons = 2 * walk::comparisons(width, height, structuring_element);
     list.case(
         &[
-            &width, &height, &picture.stride, &picture.bytes.len(), &destination.stride, &destination.bytes.len(),
-            &(7 * width * height), &structuring_element, &target_luma, &denominator_floor, &comparisons,
+            &width,
+            &height,
+            &picture.stride,
+            &picture.bytes.len(),
+            &destination.stride,
+            &destination.bytes.len(),
+            &(7 * width * height),
+            &structuring_element,
+            &target_luma,
+            &denominator_floor,
+            &comparisons,
         ],
         &[&picture.bytes, &destination.bytes],
     );
@@ -40,11 +49,17 @@ const KERNELS: [Settings; 5] = [(3, 200, 8), (5, 200, 8), (31, 200, 8), (usize::
 pub fn list() -> List {
     let mut l = List::default();
     l.comment("Background division. Columns: width height source-stride source-length destination-stride");
-    l.comment("destination-length workspace-length element target floor comparisons, the source, the destination afterwards");
+    l.comment(
+        "destination-length workspace-length element target floor comparisons, the source, the destination afterwards",
+    );
     l.comment("Byte i of the destination is 11 + 37 * i in 8 bits before the call; the workspace is as");
     l.comment("short as it may be, 7 * width * height bytes.");
-    l.comment("The bytes are those of the published Rust, aukilabs/qr-lab at c99d6ca466. The comparisons, which it does not");
-    l.comment("count, are a plain walk over the indices of document 01's three rules (rust/vectors/src/walk.rs). Made by");
+    l.comment(
+        "The bytes are those of the published Rust, aukilabs/qr-lab at c99d6ca466. The comparisons, which it does not",
+    );
+    l.comment(
+        "count, are a plain walk over the indices of document 01's three rules (rust/vectors/src/walk.rs). Made by",
+    );
     l.comment("cargo run --release -p vectors -- division");
     l.comment("document 01's row and single pixels");
     assert_eq!(divide(&mut l, &Picture::row(&[255, 0, 0, 0]), 4, 0, (3, 200, 8)), [255, 0, 0, 0]);
@@ -54,9 +69,23 @@ pub fn list() -> List {
     each(&mut l, "one white pixel", &Picture::new(1, 1, 2, 0, &[255]), 1, 0, &EXTREMES[1..]);
     each(&mut l, "light at both borders of a row: saturated", &Picture::row(&[255, 1, 0, 2, 250]), 6, 1, &EXTREMES);
     each(&mut l, "the same as a column", &Picture::new(1, 5, 3, 0, &[255, 1, 0, 2, 250]), 2, 0, &EXTREMES[..3]);
-    each(&mut l, "around the floor", &Picture::row(&[6, 7, 8, 9, 10, 7, 8, 8, 9]), 9, 0, &[(3, 200, 7), (3, 200, 8), (3, 200, 9), (3, 100, 10)]);
+    each(
+        &mut l,
+        "around the floor",
+        &Picture::row(&[6, 7, 8, 9, 10, 7, 8, 8, 9]),
+        9,
+        0,
+        &[(3, 200, 7), (3, 200, 8), (3, 200, 9), (3, 100, 10)],
+    );
     each(&mut l, "noise, both sides strided", &Picture::new(5, 4, 8, 0, &noise(20, 11)), 7, 0, &KERNELS);
     each(&mut l, "noise, taller than wide", &Picture::new(6, 9, 7, 3, &noise(54, 12)), 6, 2, &KERNELS);
-    each(&mut l, "noise of dark pixels", &Picture::packed(7, 5, &noise(35, 13).iter().map(|v| v / 16).collect::<Vec<u8>>()), 8, 0, &EXTREMES);
+    each(
+        &mut l,
+        "noise of dark pixels",
+        &Picture::packed(7, 5, &noise(35, 13).iter().map(|v| v / 16).collect::<Vec<u8>>()),
+        8,
+        0,
+        &EXTREMES,
+    );
     l
 }

@@ -25,9 +25,22 @@ fn build(list: &mut List, picture: &Picture, tail: usize, config: TileThresholdC
     let (method, k, dynamic_range) = numbers(config.method);
     list.case(
         &[
-            &picture.width, &picture.height, &picture.stride, &picture.bytes.len(), &config.tile_width,
-            &config.tile_height, &config.neighborhood_radius, &config.contrast_floor, &method, &k, &dynamic_range,
-            &(5 * tiles), &(tiles + tail), &grid.tiles_x(), &grid.tiles_y(), &config.threshold_offset,
+            &picture.width,
+            &picture.height,
+            &picture.stride,
+            &picture.bytes.len(),
+            &config.tile_width,
+            &config.tile_height,
+            &config.neighborhood_radius,
+            &config.contrast_floor,
+            &method,
+            &k,
+            &dynamic_range,
+            &(5 * tiles),
+            &(tiles + tail),
+            &grid.tiles_x(),
+            &grid.tiles_y(),
+            &config.threshold_offset,
         ],
         &[&picture.bytes, &thresholds, &skips],
     );
@@ -74,8 +87,17 @@ fn sauvolas(l: &mut List, page: &Picture) {
     l.comment("Sauvola: settings at their limits, and values below 0 and above 255");
     let largest = f64::MAX;
     let settings = [
-        (0.0, 128.0), (-0.0, 128.0), (-0.3, 64.0), (3.5, 1.0), (-1000.0, 128.0), (1000.0, 0.25), (largest, 1.0),
-        (-largest, 1.0), (1.0, largest), (0.2, f64::from_bits(1)), (f64::from_bits(1), f64::MIN_POSITIVE),
+        (0.0, 128.0),
+        (-0.0, 128.0),
+        (-0.3, 64.0),
+        (3.5, 1.0),
+        (-1000.0, 128.0),
+        (1000.0, 0.25),
+        (largest, 1.0),
+        (-largest, 1.0),
+        (1.0, largest),
+        (0.2, f64::from_bits(1)),
+        (f64::from_bits(1), f64::MIN_POSITIVE),
     ];
     for (k, dynamic_range) in settings {
         build(l, page, 0, TileThresholdConfig { method: sauvola(k, dynamic_range), ..tiles(4, 3, 1) });
@@ -92,7 +114,9 @@ fn sauvolas(l: &mut List, page: &Picture) {
 
 pub fn list() -> List {
     let mut l = List::default();
-    l.comment("Tile grids. Columns: width height stride length tile-width tile-height neighbourhood-radius contrast-floor");
+    l.comment(
+        "Tile grids. Columns: width height stride length tile-width tile-height neighbourhood-radius contrast-floor",
+    );
     l.comment("method k range workspace-length buffer-length tiles-x tiles-y offset, the source, the thresholds and the skips afterwards");
     l.comment("method: 0 Midrange, 1 Sauvola with the bit patterns of k and of the range. The two buffers are");
     l.comment("equally long, and byte i of each is 11 + 37 * i in 8 bits before the call. The workspace is as short as it may");
@@ -107,7 +131,10 @@ pub fn list() -> List {
     }
     let pair = Picture::row(&[0, 200]);
     for (method, threshold) in [(sauvola(0.2, 128.0), 96), (sauvola(0.0, f64::from_bits(1)), 0)] {
-        assert_eq!(build(&mut l, &pair, 0, TileThresholdConfig { method, ..TileThresholdConfig::default() }), [threshold]);
+        assert_eq!(
+            build(&mut l, &pair, 0, TileThresholdConfig { method, ..TileThresholdConfig::default() }),
+            [threshold]
+        );
     }
     let page = Picture::new(8, 7, 9, 2, &noise(56, 31));
     midranges(&mut l, &page);

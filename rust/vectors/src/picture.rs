@@ -15,7 +15,8 @@ pub struct Picture {
 impl Picture {
     pub fn new(width: usize, height: usize, stride: usize, tail: usize, pixels: &[u8]) -> Self {
         assert_eq!(pixels.len(), width * height, "a byte for each pixel");
-        let mut bytes: Vec<u8> = (0..length(width, height, stride, tail)).map(|i| if i % 2 == 0 { 0 } else { 255 }).collect();
+        let mut bytes: Vec<u8> =
+            (0..length(width, height, stride, tail)).map(|i| if i % 2 == 0 { 0 } else { 255 }).collect();
         for y in 0..height {
             bytes[y * stride..y * stride + width].copy_from_slice(&pixels[y * width..(y + 1) * width]);
         }

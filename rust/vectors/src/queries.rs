@@ -9,11 +9,16 @@ const SKIPPED: [u8; 4] = [1, 2, 255, 128];
 
 /// The questions for some places of one grid, whose buffers have `tail` bytes more than there are tiles.
 fn ask(list: &mut List, picture: &Picture, tile_width: usize, tile_height: usize, contrast_floor: u8, tail: usize) {
-    let config = TileThresholdConfig { tile_width, tile_height, contrast_floor, neighborhood_radius: 0, ..Default::default() };
+    let config =
+        TileThresholdConfig { tile_width, tile_height, contrast_floor, neighborhood_radius: 0, ..Default::default() };
     let grid = TileThresholdGrid::build(picture.view(), config).expect("accepted");
     let mut thresholds = grid.thresholds().to_vec();
-    let mut skips: Vec<u8> =
-        grid.skip_mask().iter().enumerate().map(|(i, &skip)| if skip { SKIPPED[i % SKIPPED.len()] } else { 0 }).collect();
+    let mut skips: Vec<u8> = grid
+        .skip_mask()
+        .iter()
+        .enumerate()
+        .map(|(i, &skip)| if skip { SKIPPED[i % SKIPPED.len()] } else { 0 })
+        .collect();
     thresholds.extend(vec![7; tail]);
     skips.extend(vec![0; tail]);
     let (right, bottom) = (picture.width - 1, picture.height - 1);
@@ -21,8 +26,18 @@ fn ask(list: &mut List, picture: &Picture, tile_width: usize, tile_height: usize
         let (skip, row) = (u8::from(grid.is_skip(x, y)), u8::from(grid.row_all_skip(y)));
         list.case(
             &[
-                &picture.width, &picture.height, &tile_width, &tile_height, &grid.tiles_x(), &grid.tiles_y(),
-                &thresholds.len(), &x, &y, &grid.threshold_at(x, y), &skip, &row,
+                &picture.width,
+                &picture.height,
+                &tile_width,
+                &tile_height,
+                &grid.tiles_x(),
+                &grid.tiles_y(),
+                &thresholds.len(),
+                &x,
+                &y,
+                &grid.threshold_at(x, y),
+                &skip,
+                &row,
             ],
             &[&thresholds, &skips],
         );
@@ -31,7 +46,9 @@ fn ask(list: &mut List, picture: &Picture, tile_width: usize, tile_height: usize
 
 pub fn list() -> List {
     let mut l = List::default();
-    l.comment("Questions to a grid. Columns: width height tile-width tile-height tiles-x tiles-y buffer-length x y, the");
+    l.comment(
+        "Questions to a grid. Columns: width height tile-width tile-height tiles-x tiles-y buffer-length x y, the",
+    );
     l.comment("threshold at (x, y), whether its tile is skipped, whether every tile of that tile row is, the thresholds, the skips");
     l.comment("The answers are those of the published Rust, aukilabs/qr-lab at c99d6ca466. Made by");
     l.comment("cargo run --release -p vectors -- queries");
@@ -64,7 +81,8 @@ struct Query {
 
 impl Query {
     /// 8 by 7 in tiles of 3 by 2: 3 by 4 of them.
-    const GOOD: Self = Self { width: 8, height: 7, tile_width: 3, tile_height: 2, tiles_x: 3, tiles_y: 4, room: 12, x: 7, y: 6 };
+    const GOOD: Self =
+        Self { width: 8, height: 7, tile_width: 3, tile_height: 2, tiles_x: 3, tiles_y: 4, room: 12, x: 7, y: 6 };
 
     /// The number of a pixel's question, and that of its row's.
     fn two(l: &mut List, query: &Self, pixel: u32, row: u32) {
@@ -115,7 +133,17 @@ pub fn refusals() -> List {
 /// Sides and counts at their ends.
 fn edges(l: &mut List, good: &Query) {
     l.comment("sides at the limit and above it, rows far outside, the largest tiles, counts one off on either side");
-    let wide = Query { width: 4096, height: 1, tile_width: 1024, tile_height: 1, tiles_x: 4, tiles_y: 1, room: 4, x: 4095, y: 0 };
+    let wide = Query {
+        width: 4096,
+        height: 1,
+        tile_width: 1024,
+        tile_height: 1,
+        tiles_x: 4,
+        tiles_y: 1,
+        room: 4,
+        x: 4095,
+        y: 0,
+    };
     Query::two(l, &wide, 0, 0);
     Query::two(l, &Query { x: 4096, ..wide.clone() }, 9, 0);
     Query::two(l, &Query { width: 4097, tiles_x: 5, room: 5, ..wide.clone() }, 7, 7);

@@ -15,11 +15,35 @@ fn reading(list: &mut List, picture: &Picture, stride: usize, tail: usize, setti
     let (bytes, words) = room(width, height, &grid);
     list.case(
         &[
-            &width, &height, &picture.stride, &picture.bytes.len(), &destination.stride, &destination.bytes.len(),
-            &division.structuring_element, &division.target_luma, &division.denominator_floor, &opening_kernel,
-            &grid.tile_width, &grid.tile_height, &grid.neighborhood_radius, &grid.contrast_floor, &method, &k, &dynamic_range,
-            &sauvola.radius, &sauvola.k_milli, &sauvola.dynamic_range, &sauvola.dark_value, &sauvola.light_value,
-            &bytes, &words, &counts.dark, &counts.light, &counts.skipped, &counts.comparisons, &grid.threshold_offset,
+            &width,
+            &height,
+            &picture.stride,
+            &picture.bytes.len(),
+            &destination.stride,
+            &destination.bytes.len(),
+            &division.structuring_element,
+            &division.target_luma,
+            &division.denominator_floor,
+            &opening_kernel,
+            &grid.tile_width,
+            &grid.tile_height,
+            &grid.neighborhood_radius,
+            &grid.contrast_floor,
+            &method,
+            &k,
+            &dynamic_range,
+            &sauvola.radius,
+            &sauvola.k_milli,
+            &sauvola.dynamic_range,
+            &sauvola.dark_value,
+            &sauvola.light_value,
+            &bytes,
+            &words,
+            &counts.dark,
+            &counts.light,
+            &counts.skipped,
+            &counts.comparisons,
+            &grid.threshold_offset,
         ],
         &[&picture.bytes, &destination.bytes],
     );
@@ -70,14 +94,28 @@ fn half_flat(width: usize, height: usize) -> Vec<u8> {
         .map(|i| {
             let (x, y) = (i % width, i / width);
             let dark = (x + y / 2) % 4 < 2;
-            if 2 * x >= width { 140 } else { (if dark { 40 } else { 160 }) + (5 * x + 3 * y) as u8 }
+            if 2 * x >= width {
+                140
+            } else {
+                (if dark { 40 } else { 160 }) + (5 * x + 3 * y) as u8
+            }
         })
         .collect()
 }
 
 /// Dark runs of five samples and light ones of four, then one value.
 fn runs(count: usize) -> Vec<u8> {
-    (0..count).map(|i| if i >= 14 { 180 } else if i % 9 < 5 { 50 + i as u8 } else { 170 + i as u8 }).collect()
+    (0..count)
+        .map(|i| {
+            if i >= 14 {
+                180
+            } else if i % 9 < 5 {
+                50 + i as u8
+            } else {
+                170 + i as u8
+            }
+        })
+        .collect()
 }
 
 /// The picture has light pixels, dark ones and such that are skipped.
@@ -115,11 +153,19 @@ fn judgements(l: &mut List) {
 
 pub fn list() -> List {
     let mut l = List::default();
-    l.comment("Readings. Columns: width height source-stride source-length destination-stride destination-length, element");
-    l.comment("target floor opening-kernel, tile-width tile-height neighbourhood-radius contrast-floor method k range,");
-    l.comment("radius k-milli dynamic-range dark-value light-value, bytes words, dark light skipped comparisons, offset,");
+    l.comment(
+        "Readings. Columns: width height source-stride source-length destination-stride destination-length, element",
+    );
+    l.comment(
+        "target floor opening-kernel, tile-width tile-height neighbourhood-radius contrast-floor method k range,",
+    );
+    l.comment(
+        "radius k-milli dynamic-range dark-value light-value, bytes words, dark light skipped comparisons, offset,",
+    );
     l.comment("the source, the destination afterwards");
-    l.comment("method: 0 Midrange, 1 Sauvola with the bit patterns of k and of the range. Byte i of the destination is");
+    l.comment(
+        "method: 0 Midrange, 1 Sauvola with the bit patterns of k and of the range. Byte i of the destination is",
+    );
     l.comment("11 + 37 * i in 8 bits before the call; the workspaces are as short as they may be.");
     l.comment("The bytes and the first three counts are those of the published Rust, aukilabs/qr-lab at c99d6ca466, whose calls");
     l.comment("are made one after the other (rust/vectors/src/chain.rs). The comparisons, which it does not count, are a plain");
@@ -134,7 +180,8 @@ pub fn list() -> List {
     let all = [kernels(3, 3), tiled(kernels(3, 3), 2, 2, 0)];
     each(&mut l, "black", &Picture::new(5, 3, 6, 0, &[0; 15]), 5, 0, &all);
     each(&mut l, "white", &Picture::new(5, 3, 6, 0, &[255; 15]), 5, 0, &all);
-    let rough = [Settings::default(), kernels(5, 3), tiled(kernels(5, 3), 3, 3, 60), tiled(kernels(9, 5), usize::MAX, 2, 12)];
+    let rough =
+        [Settings::default(), kernels(5, 3), tiled(kernels(5, 3), 3, 3, 60), tiled(kernels(9, 5), usize::MAX, 2, 12)];
     each(&mut l, "noise", &Picture::new(9, 8, 11, 0, &noise(72, 41)), 9, 2, &rough);
     l
 }

@@ -53,9 +53,15 @@ fn answered(l: &mut List, call: &Build, number: u32) {
 const OTHER_NAN: u64 = 0xfff0_0000_0000_0001;
 
 fn conditions() -> Vec<Condition<Build>> {
-    let mut list = layout(SOURCE, [
-        |c: &mut Build| c.source.empty(), |c| c.source.stride_too_small(), |c| c.source.too_short(), |c| c.source.too_wide(),
-    ]);
+    let mut list = layout(
+        SOURCE,
+        [
+            |c: &mut Build| c.source.empty(),
+            |c| c.source.stride_too_small(),
+            |c| c.source.too_short(),
+            |c| c.source.too_wide(),
+        ],
+    );
     list.push(Condition { number: 7, what: "the tile width", apply: |c| c.tile_width = 0 });
     list.push(Condition { number: 7, what: "the tile height", apply: |c| c.tile_height = 0 });
     list.push(Condition { number: 7, what: "k", apply: |c| c.k = f64::INFINITY });
@@ -73,7 +79,15 @@ fn floats(l: &mut List) {
         answered(l, &Build { k, ..good.clone() }, 7);
     }
     let ranges = [
-        f64::NAN, f64::from_bits(OTHER_NAN), f64::INFINITY, f64::NEG_INFINITY, 0.0, -0.0, -1.0, -128.0, f64::MIN,
+        f64::NAN,
+        f64::from_bits(OTHER_NAN),
+        f64::INFINITY,
+        f64::NEG_INFINITY,
+        0.0,
+        -0.0,
+        -1.0,
+        -128.0,
+        f64::MIN,
         -f64::from_bits(1),
     ];
     for dynamic_range in ranges {
@@ -91,13 +105,25 @@ fn floats(l: &mut List) {
 /// Workspace and buffers exact and one short, where t is the number of tiles.
 fn rooms(l: &mut List) {
     l.comment("workspace and buffers exact and one short, for each method; ragged tiles, one tile, tiles of one pixel");
-    for (width, height, tile_width, tile_height, tiles) in
-        [(4, 3, 2, 2, 4), (5, 4, 2, 3, 6), (5, 4, 16, 16, 1), (5, 4, 1, 1, 20), (5, 4, u64::MAX, 1, 4), (4096, 1, 4096, 1, 1)]
-    {
+    for (width, height, tile_width, tile_height, tiles) in [
+        (4, 3, 2, 2, 4),
+        (5, 4, 2, 3, 6),
+        (5, 4, 16, 16, 1),
+        (5, 4, 1, 1, 20),
+        (5, 4, u64::MAX, 1, 4),
+        (4096, 1, 4096, 1, 1),
+    ] {
         for method in [0, 1] {
             let source = Lent::new(width * height, width, height, width);
             let good = Build {
-                source, tile_width, tile_height, method, room: 5 * tiles, thresholds: tiles, skips: tiles, ..Build::good()
+                source,
+                tile_width,
+                tile_height,
+                method,
+                room: 5 * tiles,
+                thresholds: tiles,
+                skips: tiles,
+                ..Build::good()
             };
             answered(l, &good, 0);
             answered(l, &Build { room: good.room - 1, ..good.clone() }, 8);
@@ -113,11 +139,17 @@ fn rooms(l: &mut List) {
 pub fn list() -> List {
     let mut l = List::default();
     l.comment("Refusals of the grid's build. Columns: source-length width height stride, tile-width tile-height");
-    l.comment("neighbourhood-radius contrast-floor method k range, workspace-length thresholds-length skips-length, number");
+    l.comment(
+        "neighbourhood-radius contrast-floor method k range, workspace-length thresholds-length skips-length, number",
+    );
     l.comment("method: 0 Midrange, 1 Sauvola with the bit patterns of k and of the range. 1 to 4 the layout; 7 a zero tile side,");
-    l.comment("or of Sauvola k or range not finite or range not above 0; 8 a workspace under 5t words; 10 a buffer under t");
+    l.comment(
+        "or of Sauvola k or range not finite or range not above 0; 8 a workspace under 5t words; 10 a buffer under t",
+    );
     l.comment("bytes, t the number of tiles; 0 accepted.");
-    l.comment("The numbers are document 01's, and of several conditions the earliest counts: no program was asked. A refused");
+    l.comment(
+        "The numbers are document 01's, and of several conditions the earliest counts: no program was asked. A refused",
+    );
     l.comment("call leaves every slice as it was. Put together (rust/vectors/src/refused_grid.rs) by");
     l.comment("cargo run --release -p vectors -- grid_refusals");
     answered(&mut l, &Build::good(), 0);

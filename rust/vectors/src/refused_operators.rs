@@ -44,13 +44,24 @@ fn answered(l: &mut List, call: &Call, number: u32) {
 
 /// Layouts of the source and of the destination, then sizes that differ.
 fn pictures() -> Vec<Condition<Call>> {
-    let mut list = layout(SOURCE, [
-        |c: &mut Call| c.source.empty(), |c| c.source.stride_too_small(), |c| c.source.too_short(), |c| c.source.too_wide(),
-    ]);
-    list.extend(layout(DESTINATION, [
-        |c: &mut Call| c.destination.empty(), |c| c.destination.stride_too_small(), |c| c.destination.too_short(),
-        |c| c.destination.too_wide(),
-    ]));
+    let mut list = layout(
+        SOURCE,
+        [
+            |c: &mut Call| c.source.empty(),
+            |c| c.source.stride_too_small(),
+            |c| c.source.too_short(),
+            |c| c.source.too_wide(),
+        ],
+    );
+    list.extend(layout(
+        DESTINATION,
+        [
+            |c: &mut Call| c.destination.empty(),
+            |c| c.destination.stride_too_small(),
+            |c| c.destination.too_short(),
+            |c| c.destination.too_wide(),
+        ],
+    ));
     list.push(Condition { number: 5, what: "sizes that differ", apply: |c| c.destination = Lent::new(10, 4, 2, 6) });
     list
 }
@@ -66,7 +77,13 @@ fn conditions(settings: Vec<Condition<Call>>) -> Vec<Condition<Call>> {
 /// Sizes that differ in each way, and layouts at their ends, all with settings and a workspace that are good.
 fn sizes(l: &mut List, good: &Call) {
     l.comment("sizes that differ in the width, in the height, in both; the same area turned");
-    for destination in [Lent::new(15, 3, 3, 6), Lent::new(17, 5, 3, 6), Lent::new(22, 4, 4, 6), Lent::new(9, 3, 2, 6), Lent::new(12, 3, 4, 3)] {
+    for destination in [
+        Lent::new(15, 3, 3, 6),
+        Lent::new(17, 5, 3, 6),
+        Lent::new(22, 4, 4, 6),
+        Lent::new(9, 3, 2, 6),
+        Lent::new(12, 3, 4, 3),
+    ] {
         answered(l, &Call { destination, ..good.clone() }, 5);
     }
     l.comment("strides at their ends: one row takes every stride, two rows need a slice that no memory has");
@@ -114,7 +131,9 @@ fn header(columns: &str, numbers: &str, name: &str) -> List {
     l.comment("Refusals. Columns: source-length width height stride, destination-length width height stride,");
     l.comment(columns);
     l.comment(numbers);
-    l.comment("The numbers are document 01's, and of several conditions the earliest counts: no program was asked. A refused");
+    l.comment(
+        "The numbers are document 01's, and of several conditions the earliest counts: no program was asked. A refused",
+    );
     l.comment("call leaves every slice as it was. Put together (rust/vectors/src/refused_operators.rs) by");
     l.comment(&format!("cargo run --release -p vectors -- {name}"));
     l

@@ -51,7 +51,12 @@ impl Reading {
 
     fn fields(&self) -> Vec<u64> {
         let pictures = self.source.fields().into_iter().chain(self.destination.fields());
-        let settings = self.kernels.into_iter().chain(self.grid).chain([self.k.to_bits(), self.range.to_bits()]).chain(self.sauvola);
+        let settings = self
+            .kernels
+            .into_iter()
+            .chain(self.grid)
+            .chain([self.k.to_bits(), self.range.to_bits()])
+            .chain(self.sauvola);
         pictures.chain(settings).chain([self.bytes, self.words]).collect()
     }
 }
@@ -63,13 +68,24 @@ fn answered(l: &mut List, call: &Reading, number: u32) {
 /// Document 01's order: layouts; 5; division settings 7; the opening's kernel 6; grid settings 7; Sauvola settings 7;
 /// either workspace 8.
 fn conditions() -> Vec<Condition<Reading>> {
-    let mut list = layout(SOURCE, [
-        |c: &mut Reading| c.source.empty(), |c| c.source.stride_too_small(), |c| c.source.too_short(), |c| c.source.too_wide(),
-    ]);
-    list.extend(layout(DESTINATION, [
-        |c: &mut Reading| c.destination.empty(), |c| c.destination.stride_too_small(), |c| c.destination.too_short(),
-        |c| c.destination.too_wide(),
-    ]));
+    let mut list = layout(
+        SOURCE,
+        [
+            |c: &mut Reading| c.source.empty(),
+            |c| c.source.stride_too_small(),
+            |c| c.source.too_short(),
+            |c| c.source.too_wide(),
+        ],
+    );
+    list.extend(layout(
+        DESTINATION,
+        [
+            |c: &mut Reading| c.destination.empty(),
+            |c| c.destination.stride_too_small(),
+            |c| c.destination.too_short(),
+            |c| c.destination.too_wide(),
+        ],
+    ));
     list.push(Condition { number: 5, what: "sizes that differ", apply: |c| c.destination = Lent::new(10, 4, 2, 6) });
     list.push(Condition { number: 7, what: "the element", apply: |c| c.kernels[0] = 2 });
     list.push(Condition { number: 7, what: "the floor", apply: |c| c.kernels[2] = 0 });
@@ -101,8 +117,14 @@ fn limits(l: &mut List) {
     }
     l.comment("settings at their ends: target, floor, neighbourhood, contrast floor; Midrange has no floats; radius, k, range");
     let ends: [fn(&mut Reading); 9] = [
-        |c| c.kernels[1] = 0, |c| c.kernels[1] = 255, |c| c.kernels[2] = 1, |c| c.grid[2] = u64::MAX, |c| c.grid[3] = 255,
-        |c| (c.grid[4], c.k, c.range) = (0, f64::NAN, -1.0), |c| c.sauvola[0] = u64::MAX, |c| c.sauvola[1] = 1000,
+        |c| c.kernels[1] = 0,
+        |c| c.kernels[1] = 255,
+        |c| c.kernels[2] = 1,
+        |c| c.grid[2] = u64::MAX,
+        |c| c.grid[3] = 255,
+        |c| (c.grid[4], c.k, c.range) = (0, f64::NAN, -1.0),
+        |c| c.sauvola[0] = u64::MAX,
+        |c| c.sauvola[1] = 1000,
         |c| c.sauvola[2] = u64::from(u32::MAX),
     ];
     for end in ends {
@@ -116,8 +138,14 @@ fn limits(l: &mut List) {
 fn rooms(l: &mut List) {
     l.comment("the workspaces exact, each of them one short, none, and both longer; ragged tiles, one tile, tiles of one pixel");
     let shapes = [
-        (4, 3, 2, 2, 4), (5, 4, 2, 3, 6), (5, 4, 16, 16, 1), (5, 4, 1, 1, 20), (5, 4, u64::MAX, 1, 4), (1, 1, 1, 1, 1),
-        (4096, 1, 16, 16, 256), (1, 4096, 16, 16, 256),
+        (4, 3, 2, 2, 4),
+        (5, 4, 2, 3, 6),
+        (5, 4, 16, 16, 1),
+        (5, 4, 1, 1, 20),
+        (5, 4, u64::MAX, 1, 4),
+        (1, 1, 1, 1, 1),
+        (4096, 1, 16, 16, 256),
+        (1, 4096, 16, 16, 256),
     ];
     for (width, height, tile_width, tile_height, tiles) in shapes {
         let good = Reading::packed(width, height, tile_width, tile_height, tiles);
@@ -132,13 +160,21 @@ fn rooms(l: &mut List) {
 
 pub fn list() -> List {
     let mut l = List::default();
-    l.comment("Refusals of the reading. Columns: source-length width height stride, destination-length width height stride,");
+    l.comment(
+        "Refusals of the reading. Columns: source-length width height stride, destination-length width height stride,",
+    );
     l.comment("element target floor opening-kernel, tile-width tile-height neighbourhood-radius contrast-floor method k range,");
     l.comment("radius k-milli dynamic-range dark-value light-value, bytes words, number");
     l.comment("method: 0 Midrange, 1 Sauvola with the bit patterns of k and of the range. 1 to 4 the source's layout, then the");
-    l.comment("destination's; 5 sizes; 7 the division's settings; 6 the opening's kernel; 7 the grid's, then Sauvola's");
-    l.comment("settings; 8 bytes under 9wh + 2t or words under 2(w + 1)(h + 1) + 5t, t the number of tiles; 0 accepted.");
-    l.comment("The numbers are document 01's, and of several conditions the earliest counts: no program was asked. A refused");
+    l.comment(
+        "destination's; 5 sizes; 7 the division's settings; 6 the opening's kernel; 7 the grid's, then Sauvola's",
+    );
+    l.comment(
+        "settings; 8 bytes under 9wh + 2t or words under 2(w + 1)(h + 1) + 5t, t the number of tiles; 0 accepted.",
+    );
+    l.comment(
+        "The numbers are document 01's, and of several conditions the earliest counts: no program was asked. A refused",
+    );
     l.comment("call leaves every slice as it was. Put together (rust/vectors/src/refused_reading.rs) by");
     l.comment("cargo run --release -p vectors -- reading_refusals");
     answered(&mut l, &Reading::good(), 0);

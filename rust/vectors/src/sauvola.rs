@@ -9,8 +9,18 @@ fn binarize(list: &mut List, picture: &Picture, stride: usize, tail: usize, conf
     sauvola_into(picture.view(), destination.view(), &config, &mut ThresholdWorkspace::default()).expect("accepted");
     list.case(
         &[
-            &width, &height, &picture.stride, &picture.bytes.len(), &destination.stride, &destination.bytes.len(),
-            &(2 * (width + 1) * (height + 1)), &config.radius, &config.k_milli, &config.dynamic_range, &config.dark_value, &config.light_value,
+            &width,
+            &height,
+            &picture.stride,
+            &picture.bytes.len(),
+            &destination.stride,
+            &destination.bytes.len(),
+            &(2 * (width + 1) * (height + 1)),
+            &config.radius,
+            &config.k_milli,
+            &config.dynamic_range,
+            &config.dark_value,
+            &config.light_value,
         ],
         &[&picture.bytes, &destination.bytes],
     );
@@ -34,7 +44,11 @@ fn strokes(width: usize, height: usize) -> Vec<u8> {
         .map(|i| {
             let (x, y) = (i % width, i / width);
             let light = 150 + 7 * x as u8 + 5 * y as u8;
-            if (x + 2 * y) % 5 == 0 { light - 90 } else { light }
+            if (x + 2 * y) % 5 == 0 {
+                light - 90
+            } else {
+                light
+            }
         })
         .collect()
 }
@@ -59,9 +73,11 @@ pub fn list() -> List {
     let nearly = Picture::row(&[255, 255, 255, 255, 254, 255, 255, 255, 255, 255]);
     binarize(&mut l, &nearly, 10, 0, settings(9, 200, 128));
     let page = Picture::new(8, 6, 10, 1, &strokes(8, 6));
-    let radii: Vec<SauvolaConfig> = [1, 2, 3, 5, 8, 4096, 65_536].iter().map(|&radius| settings(radius, 200, 128)).collect();
+    let radii: Vec<SauvolaConfig> =
+        [1, 2, 3, 5, 8, 4096, 65_536].iter().map(|&radius| settings(radius, 200, 128)).collect();
     each(&mut l, "strokes: windows clipped at every border and corner, then above the sides", &page, 9, 2, &radii);
-    let scales = [(0, 128), (1, 128), (999, 128), (1000, 128), (1000, 1), (200, 1), (200, 4_294_967_295), (1000, 4_294_967_295)];
+    let scales =
+        [(0, 128), (1, 128), (999, 128), (1000, 128), (1000, 1), (200, 1), (200, 4_294_967_295), (1000, 4_294_967_295)];
     let scales: Vec<SauvolaConfig> = scales.iter().map(|&(k_milli, range)| settings(2, k_milli, range)).collect();
     each(&mut l, "strokes: k and the range at their limits", &page, 8, 0, &scales);
     let values: Vec<SauvolaConfig> = [(7, 7), (255, 0), (1, 2)]
@@ -79,6 +95,13 @@ pub fn list() -> List {
     let spread = [settings(1, 1000, 1), settings(1, 1000, 127), settings(1, 200, 1), settings(4, 1000, 64)];
     let board: Vec<u8> = (0..24).map(|i| if (i % 6 + i / 6) % 2 == 0 { 0 } else { 255 }).collect();
     each(&mut l, "black and white by turns: thresholds above 255", &Picture::packed(6, 4, &board), 6, 0, &spread);
-    each(&mut l, "noise", &Picture::new(7, 7, 8, 0, &noise(49, 23)), 7, 1, &[usual, settings(2, 200, 128), settings(3, 500, 30)]);
+    each(
+        &mut l,
+        "noise",
+        &Picture::new(7, 7, 8, 0, &noise(49, 23)),
+        7,
+        1,
+        &[usual, settings(2, 200, 128), settings(3, 500, 30)],
+    );
     l
 }
