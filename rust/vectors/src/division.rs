@@ -16,22 +16,9 @@ fn divide(list: &mut List, picture: &Picture, stride: usize, tail: usize, settin
         .expect("accepted");
     // The closing's two passes: raising the background to the floor is not counted.
     let comparisons = 2 * walk::comparisons(width, height, structuring_element);
-    list.case(
-        &[
-            &width,
-            &height,
-            &picture.stride,
-            &picture.bytes.len(),
-            &destination.stride,
-            &destination.bytes.len(),
-            &(7 * width * height),
-            &structuring_element,
-            &target_luma,
-            &denominator_floor,
-            &comparisons,
-        ],
-        &[&picture.bytes, &destination.bytes],
-    );
+    let room = 7 * width * height;
+    let others = format!("{room} {structuring_element} {target_luma} {denominator_floor} {comparisons}");
+    list.call("", picture, &destination, &others);
     destination.bytes
 }
 

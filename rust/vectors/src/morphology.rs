@@ -20,21 +20,8 @@ fn four(list: &mut List, what: &str, picture: &Picture, stride: usize, tail: usi
         };
         call(picture.view(), destination.view(), kernel, &mut MorphologyWorkspace::default()).expect("accepted");
         let comparisons = passes * walk::comparisons(width, height, kernel);
-        list.case(
-            &[
-                &operation,
-                &width,
-                &height,
-                &picture.stride,
-                &picture.bytes.len(),
-                &destination.stride,
-                &destination.bytes.len(),
-                &(6 * width * height),
-                &kernel,
-                &comparisons,
-            ],
-            &[&picture.bytes, &destination.bytes],
-        );
+        let others = format!("{} {kernel} {comparisons}", 6 * width * height);
+        list.call(&operation.to_string(), picture, &destination, &others);
     }
 }
 

@@ -88,7 +88,20 @@ impl List {
 
     /// A case: its numbers, and then the bytes of each slice.
     pub fn case(&mut self, fields: &[&dyn Display], slices: &[&[u8]]) {
-        let numbers = fields.iter().map(|field| field.to_string());
+        self.line(fields.iter().map(|field| field.to_string()), slices);
+    }
+
+    /// A case of a call from a picture to a destination: which call where there are several, how both pictures lie, the
+    /// other numbers, and the bytes of both.
+    pub fn call(&mut self, which: &str, picture: &Picture, destination: &Destination, others: &str) {
+        let (from, to) = (&picture.bytes, &destination.bytes);
+        let source = format!("{} {} {} {}", picture.width, picture.height, picture.stride, from.len());
+        let target = format!("{} {}", destination.stride, to.len());
+        let parts = [which, &source, &target, others].into_iter().filter(|part| !part.is_empty());
+        self.line(parts.map(str::to_owned), &[from, to]);
+    }
+
+    fn line(&mut self, numbers: impl Iterator<Item = String>, slices: &[&[u8]]) {
         let bytes = slices.iter().flat_map(|slice| slice.iter()).map(|byte| byte.to_string());
         let line: Vec<String> = numbers.chain(bytes).collect();
         writeln!(self.text, "{}", line.join(" ")).expect("a string takes every line");

@@ -3,50 +3,30 @@
 use crate::chain::{read, room, Counts, Settings};
 use crate::grid;
 use crate::picture::{noise, Destination, List, Picture};
+use qr_lab_imgproc::illumination::BackgroundDivideConfig;
 use qr_lab_imgproc::threshold::{SauvolaConfig, TileThresholdConfig, TileThresholdMethod};
+
+/// The numbers of the settings, in the order of the list.
+fn numbers(settings: &Settings) -> String {
+    let BackgroundDivideConfig { structuring_element, target_luma, denominator_floor } = settings.division;
+    let TileThresholdConfig { tile_width, tile_height, neighborhood_radius, contrast_floor, .. } = settings.grid;
+    let (method, k, range) = grid::numbers(settings.grid.method);
+    let SauvolaConfig { radius, k_milli, dynamic_range, dark_value, light_value } = settings.sauvola;
+    let flattened = format!("{structuring_element} {target_luma} {denominator_floor} {}", settings.opening_kernel);
+    let tiles = format!("{tile_width} {tile_height} {neighborhood_radius} {contrast_floor} {method} {k} {range}");
+    format!("{flattened} {tiles} {radius} {k_milli} {dynamic_range} {dark_value} {light_value}")
+}
 
 /// A case whose destination has a stride and a tail.
 fn reading(list: &mut List, picture: &Picture, stride: usize, tail: usize, settings: &Settings) -> (Counts, Vec<u8>) {
-    let Settings { division, opening_kernel, grid, sauvola } = *settings;
     let (width, height) = (picture.width, picture.height);
     let mut destination = Destination::new(width, height, stride, tail);
     let counts = read(picture, &mut destination, settings);
-    let (method, k, dynamic_range) = grid::numbers(grid.method);
-    let (bytes, words) = room(width, height, &grid);
-    list.case(
-        &[
-            &width,
-            &height,
-            &picture.stride,
-            &picture.bytes.len(),
-            &destination.stride,
-            &destination.bytes.len(),
-            &division.structuring_element,
-            &division.target_luma,
-            &division.denominator_floor,
-            &opening_kernel,
-            &grid.tile_width,
-            &grid.tile_height,
-            &grid.neighborhood_radius,
-            &grid.contrast_floor,
-            &method,
-            &k,
-            &dynamic_range,
-            &sauvola.radius,
-            &sauvola.k_milli,
-            &sauvola.dynamic_range,
-            &sauvola.dark_value,
-            &sauvola.light_value,
-            &bytes,
-            &words,
-            &counts.dark,
-            &counts.light,
-            &counts.skipped,
-            &counts.comparisons,
-            &grid.threshold_offset,
-        ],
-        &[&picture.bytes, &destination.bytes],
-    );
+    let Counts { dark, light, skipped, comparisons } = counts;
+    let (bytes, words) = room(width, height, &settings.grid);
+    let offset = settings.grid.threshold_offset;
+    let answer = format!("{bytes} {words} {dark} {light} {skipped} {comparisons} {offset}");
+    list.call("", picture, &destination, &format!("{} {answer}", numbers(settings)));
     (counts, destination.bytes)
 }
 

@@ -7,23 +7,10 @@ fn binarize(list: &mut List, picture: &Picture, stride: usize, tail: usize, conf
     let (width, height) = (picture.width, picture.height);
     let mut destination = Destination::new(width, height, stride, tail);
     sauvola_into(picture.view(), destination.view(), &config, &mut ThresholdWorkspace::default()).expect("accepted");
-    list.case(
-        &[
-            &width,
-            &height,
-            &picture.stride,
-            &picture.bytes.len(),
-            &destination.stride,
-            &destination.bytes.len(),
-            &(2 * (width + 1) * (height + 1)),
-            &config.radius,
-            &config.k_milli,
-            &config.dynamic_range,
-            &config.dark_value,
-            &config.light_value,
-        ],
-        &[&picture.bytes, &destination.bytes],
-    );
+    let SauvolaConfig { radius, k_milli, dynamic_range, dark_value, light_value } = config;
+    let room = 2 * (width + 1) * (height + 1);
+    let others = format!("{room} {radius} {k_milli} {dynamic_range} {dark_value} {light_value}");
+    list.call("", picture, &destination, &others);
     destination.bytes
 }
 
