@@ -46,6 +46,17 @@ pub fn good(rng: &mut Rng, width: usize, height: usize) -> (Vec<u8>, Geometry) {
     (u8::noise(len, rng.next()), g)
 }
 
+/// A good picture of another size, at times with as many pixels.
+pub fn another_size(rng: &mut Rng, width: usize, height: usize) -> (Vec<u8>, Geometry) {
+    let (w, h) = match rng.below(4) {
+        0 => (width + 1, height),
+        1 => (width, height + 1),
+        2 => (height, width),
+        _ => (width * 2, height.div_ceil(2)),
+    };
+    good(rng, w, h)
+}
+
 /// A good layout made wrong, at times in two ways at once.
 pub fn spoil(rng: &mut Rng, data: &mut Vec<u8>, g: &mut Geometry) {
     spoil_once(rng, data, g);

@@ -4,7 +4,7 @@ use crate::case::{listed, Buffer, Case, Expected, Left, Outcome, Places};
 use crate::corner::{self, Corner};
 use crate::document;
 use crate::guard::Guarded;
-use crate::layouts::{good, needed, picture, spoil};
+use crate::layouts::{another_size, good, needed, picture, spoil};
 use crate::rng::{Rng, Word};
 use crate::rust;
 use imgproc::{Geometry, Refusal};
@@ -73,16 +73,7 @@ impl<O: Operator> Through<O> {
                 spoil(rng, &mut src, &mut s);
                 spoil(rng, &mut dst, &mut d);
             }
-            3 => {
-                // Another size, at times with as many pixels.
-                let (w, h) = match rng.below(4) {
-                    0 => (width + 1, height),
-                    1 => (width, height + 1),
-                    2 => (height, width),
-                    _ => (width * 2, height.div_ceil(2)),
-                };
-                (dst, d) = good(rng, w, h);
-            }
+            3 => (dst, d) = another_size(rng, width, height),
             4 => room = op.room(width, height) - 1,
             5 => room = rng.below(op.room(width, height)),
             _ => {}

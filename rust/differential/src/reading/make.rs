@@ -4,7 +4,7 @@ use super::chain::{room, Reading};
 use crate::corner::{kernels, LARGEST_OFFSET, LARGEST_RADIUS};
 use crate::grid;
 use crate::illumination;
-use crate::layouts::{good, largest, picture, sides, spoil, EDGES};
+use crate::layouts::{another_size, good, largest, picture, sides, spoil, EDGES};
 use crate::levels;
 use crate::rng::{Rng, Word};
 use crate::run::{Checked, Plan, Run};
@@ -93,16 +93,7 @@ pub fn random(run: &mut Run, rng: &mut Rng) -> Checked {
             spoil(rng, &mut case.src, &mut case.s);
             spoil(rng, &mut case.dst, &mut case.d);
         }
-        3 => {
-            // Another size, at times with as many pixels.
-            let (w, h) = match rng.below(4) {
-                0 => (width + 1, height),
-                1 => (width, height + 1),
-                2 => (height, width),
-                _ => (width * 2, height.div_ceil(2)),
-            };
-            (case.dst, case.d) = good(rng, w, h);
-        }
+        3 => (case.dst, case.d) = another_size(rng, width, height),
         4 => case.bytes = bytes - 1,
         5 => case.words = words - 1,
         6 => case.bytes = rng.below(bytes),
