@@ -16,6 +16,7 @@ const WORDS: usize = 7522;
 
 const LINE: usize = 128;
 
+// The dark value of the settings that a program answers with is 0.
 fn mark(value: u8) -> u8 {
     if value == 0 {
         return b'#';

@@ -1,7 +1,7 @@
 -- A place that was handed out lies in the slice; and what the pixel and row calls answer, from the layout l that they hold. Assumes nothing.
 use Prim.Native.Nat.{ℕ, _+_, _*_, _≤_, _<_}
 use native.Mathlib.Omega.{arith}
-use mathlib.Core.Path.{_≡_, refl, sym, ap, _∙_}
+use mathlib.Core.Path.{_≡_, sym, ap, _∙_}
 use mathlib.Core.List.{List, []}
 use lib.ListN.{length, set}
 use borrow.Author.Tests.{ltb-true}

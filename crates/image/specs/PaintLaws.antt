@@ -1,10 +1,10 @@
 -- Rows written one after another: a destination whose first y rows are painted, and a workspace that holds the first y rows packed. Assumes nothing.
 use Prim.Native.Nat.{ℕ, zero, suc, _+_, _-_, _*_, _/_, _%_, _≤_, _<_}
-use native.Mathlib.Nat.{div-add-mod', mod-lt, suc-mul, mul-le-mul-right, mul-comm, zero-add, ne-of-lt, eq-or-lt-of-le, add-sub-cancel-left, mul-zero, add-zero}
+use native.Mathlib.Nat.{div-add-mod', mod-lt, suc-mul, mul-le-mul-right, mul-comm, zero-add, eq-or-lt-of-le, mul-zero, add-zero}
 use native.Mathlib.Decide.{decLt, ℕ-discrete}
 use native.Mathlib.Omega.{arith}
 use native.Mathlib.Numerals.{add-one}
-use mathlib.Core.Path.{_≡_, refl, ap, sym, _∙_, subst}
+use mathlib.Core.Path.{_≡_, refl, ap, sym, _∙_}
 use mathlib.Core.Bool.{Bool, true, false, cond, _&&_}
 use mathlib.Core.List.{List, [], _∷_, _++_, append-assoc}
 use mathlib.Core.Logic.{_⊎_, inl, inr, ⊎-elim}
@@ -14,7 +14,7 @@ use lib.ListN.{length, getD, take, drop, length-append, take-append-drop, List·
 use lib.Seq.{ext-getD, getD-append-add, take-at, drop-at, drop-drop, length-take-le}
 use borrow.Author.Tests.{lt-ltb, le-ltb}
 use borrow.Rule.Slice.PartMut.{putMid}
-use Rattle.image.specs.Plane.{pixel, packed, plane, mapFrom, paintedAt, painted, part, overwritten}
+use Rattle.image.specs.Plane.{pixel, plane, mapFrom, paintedAt, painted, overwritten}
 use Rattle.image.specs.PlaneLaws.{length-plane, pixel-plane, is-plane, length-overwritten, overwritten-before, overwritten-within, overwritten-after}
 
 -- a part that was lent to a call and came back as r

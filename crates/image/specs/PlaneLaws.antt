@@ -1,6 +1,6 @@
 -- A tabulated list holds what it was tabulated from, and a packed picture its pixels. Assumes nothing.
 use mathlib.Core.Path.{_≡_, refl, sym, ap, ap₂, _∙_}
-use mathlib.Core.List.{List, [], _∷_, _++_}
+use mathlib.Core.List.{List}
 use Prim.Native.Nat.{ℕ, zero, suc, _+_, _-_, _*_, _/_, _%_, _≤_, _<_}
 use native.Mathlib.Nat.{le-of-suc-le-suc, not-suc-le-zero, add-zero, zero-add, mod-lt, div-add-mod', div-lt-iff-lt-mul, mul-comm, mul-le-mul-right, suc-mul}
 use native.Mathlib.Omega.{arith}

@@ -1,6 +1,6 @@
 -- One pixel's judgement: where its tile's mark stands, what the mark says, and each way out of `judge`. Assumes nothing.
 use mathlib.Core.Path.{_≡_, refl, sym, ap, ap₂, _∙_}
-use mathlib.Core.Bool.{Bool, true, false, cond}
+use mathlib.Core.Bool.{Bool, true, false}
 use mathlib.Core.List.{List}
 use Prim.Native.Nat.{ℕ, suc, _+_, _-_, _*_, _/_, _%_, _≤_, _<_}
 use native.Mathlib.Nat.{le-div-iff-mul-le, suc-mul, div-mul-le-self, ne-of-lt, mul-comm}
@@ -11,7 +11,7 @@ use lib.Seq.{getD-set-same, getD-set-other}
 use borrow.Author.Count.{below-more}
 use borrow.Author.Tests.{le-leb, lt-leb}
 use Rattle.image.specs.declared.Geometry.{Geometry}
-use Rattle.image.specs.Plane.{packed, pixel, tabulate}
+use Rattle.image.specs.Plane.{packed, pixel}
 use Rattle.image.specs.PlaneLaws.{length-tabulate, getD-tabulate, in-plane, packed-again, pixel-plane}
 use Rattle.imgproc.specs.declared.reading.ReadingConfig.{ReadingConfig}
 use Rattle.imgproc.specs.declared.judging.Judged.{Judged}

@@ -5,7 +5,7 @@ use Rattle.image.specs.declared.Geometry.{Geometry}
 use Rattle.image.specs.declared.LumaError.{LumaError}
 use Rattle.image.specs.declared.Layout.{Layout}
 use Rattle.image.specs.declared.Layout.the-variants.{Valid, Invalid}
-use Rattle.image.specs.Layout.{layoutOf, refusalOf, Kept}
+use Rattle.image.specs.Layout.{layoutOf, refusalOf}
 use Rattle.imgproc.specs.declared.ImgProcError.the-variants.{Image, DimensionMismatch}
 use Rattle.imgproc.specs.declared.Check.{Check}
 use Rattle.imgproc.specs.declared.Check.the-variants.{Refused}

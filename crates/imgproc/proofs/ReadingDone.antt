@@ -2,7 +2,7 @@
 use mathlib.Core.Path.{_≡_, refl, sym, ap, ap₂, _∙_}
 use mathlib.Core.Bool.{Bool}
 use mathlib.Core.List.{List}
-use Prim.Native.Nat.{ℕ, _+_, _-_, _*_, _≤_, _<_, _^_}
+use Prim.Native.Nat.{ℕ, _+_, _-_, _*_}
 use native.Mathlib.Nat.{mul-add, mul-one}
 use native.Mathlib.Omega.{arith}
 use lib.ListN.{length}
@@ -15,9 +15,9 @@ use Rattle.imgproc.specs.declared.reading.ReadingCounts.{ReadingCounts}
 use Rattle.imgproc.specs.declared.judging.Judged.{Judged}
 use Rattle.imgproc.specs.declared.judging.Judgement.{Judgement}
 use Rattle.imgproc.specs.declared.tally.Tally.{Tally}
-use Rattle.imgproc.specs.Reach.{sweepWalks, R}
+use Rattle.imgproc.specs.Reach.{R}
 use Rattle.imgproc.specs.Walks.{sweep-walks}
-use Rattle.imgproc.specs.Grid.{tilesX, tilesY, skips}
+use Rattle.imgproc.specs.Grid.{skips}
 use Rattle.imgproc.specs.Reading.{isDark, isLight, isSkipped, openedOf, judgedOver, judged, pixels, readingOf, marked}
 use Rattle.imgproc.specs.ReadingSteps.{markedOver, OpenReady, Opened, MarkReady, Marks, JudgeRoom, PictureJudged, ReadReady, ReadDone}
 

@@ -3,7 +3,7 @@ use mathlib.Core.Bool.{true, false}
 use mathlib.Core.List.{List, [], _∷_}
 use Prim.Native.Nat.{ℕ}
 use lib.IntN.{ℤ, pos, negsuc}
-use lib.Ieee.{binary64, ofBits, lt}
+use lib.Ieee.{binary64, ofBits}
 use Rattle.imgproc.specs.declared.Check.{Check}
 use Rattle.imgproc.specs.declared.Check.the-variants.{Accepted, Refused}
 use Rattle.imgproc.specs.declared.grid.TileThresholdConfig.{TileThresholdConfig}
@@ -12,7 +12,7 @@ use Rattle.imgproc.specs.declared.grid.TileThresholdMethod.{TileThreshol
 use Rattle.imgproc.specs.declared.grid.TileThresholdMethod.the-variants.{Midrange, Sauvola}
 use Rattle.imgproc.specs.Cases.{Case, _gives_}
 use Rattle.imgproc.specs.Grid.{thresholds, skips}
-use Rattle.imgproc.specs.GridCalls.{gridSettingsCheck, badGrid, queryCheck, tileOf, allSkipped}
+use Rattle.imgproc.specs.GridCalls.{gridSettingsCheck, queryCheck, tileOf, allSkipped}
 use Rattle.imgproc.specs.Fold.{bit}
 use Rattle.imgproc.specs.Refusals.{errorNumber}
 

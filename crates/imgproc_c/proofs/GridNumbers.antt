@@ -15,7 +15,6 @@ use Rattle.image.specs.Layout.{layoutOf}
 use Rattle.imgproc.specs.declared.ImgProcError.the-variants.{InvalidConfiguration}
 use Rattle.imgproc.specs.declared.Check.{Check}
 use Rattle.imgproc.specs.declared.Check.the-variants.{Accepted, Refused}
-use Rattle.imgproc.specs.declared.grid.SauvolaFloats.{SauvolaFloats}
 use Rattle.imgproc.specs.declared.grid.TileThresholdMethod.{TileThresholdMethod}
 use Rattle.imgproc.specs.declared.grid.TileThresholdMethod.the-variants.{Sauvola}
 use Rattle.imgproc.specs.declared.grid.TileThresholdConfig.{TileThresholdConfig}

@@ -1,5 +1,5 @@
 -- From the answers of the picture crate to the exports' numbers. Assumes nothing.
-use Prim.Native.Nat.{ℕ, _+_, _*_, _≤_, _<_}
+use Prim.Native.Nat.{ℕ, _*_}
 use native.Mathlib.Nat.{mul-one}
 use native.Mathlib.Omega.{arith}
 use mathlib.Core.Path.{_≡_, refl, sym, ap, _∙_}
@@ -16,8 +16,8 @@ use Rattle.image.specs.declared.Copied.{Copied}
 use Rattle.image.specs.declared.Copied.the-variants.{Done, WorkspaceTooSmall, Refused as Copied·Refused}
 use Rattle.image.specs.Layout.{Kept, layoutOf, layoutNumber, numberOf, pixelLayout, rowLayout}
 use Rattle.image.specs.LayoutLaws.{row-inside, row-within, kept-valid}
-use Rattle.image.specs.Pixel.{valueIn, writtenIn, bytesIn, Sets}
-use Rattle.image.specs.Plane.{part, packed, overwritten}
+use Rattle.image.specs.Pixel.{valueIn, writtenIn, Sets}
+use Rattle.image.specs.Plane.{overwritten}
 use Rattle.image.specs.PlaneLaws.{length-part, packed-again}
 use Rattle.image.specs.Row.{rowIn}
 use Rattle.image.specs.Copy.{copiedOf, copiedNumber, packedIn, Packs, Unpacks}

@@ -17,7 +17,6 @@ use Rattle.imgproc.specs.declared.Check.{Check}
 use Rattle.imgproc.specs.declared.Check.the-variants.{Accepted, Refused}
 use Rattle.imgproc.specs.declared.illumination.BackgroundDivideConfig.{BackgroundDivideConfig}
 use Rattle.imgproc.specs.declared.grid.TileThresholdMethod.{TileThresholdMethod}
-use Rattle.imgproc.specs.declared.grid.TileThresholdConfig.{TileThresholdConfig}
 use Rattle.imgproc.specs.declared.threshold.SauvolaConfig.{SauvolaConfig}
 use Rattle.imgproc.specs.declared.reading.ReadingConfig.{ReadingConfig}
 use Rattle.imgproc.specs.declared.reading.ReadingCounts.{ReadingCounts}

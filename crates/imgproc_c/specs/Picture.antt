@@ -10,7 +10,7 @@ use Rattle.image.specs.declared.Copied.{Copied}
 use Rattle.image.specs.declared.Copied.the-variants.{Done, Refused, WorkspaceTooSmall}
 use Rattle.image.specs.Layout.{layoutOf, layoutNumber, pixelLayout, rowLayout}
 use Rattle.image.specs.Pixel.{bytesIn}
-use Rattle.image.specs.Plane.{pixel, part, overwritten}
+use Rattle.image.specs.Plane.{pixel, overwritten}
 use Rattle.image.specs.Row.{rowIn}
 use Rattle.image.specs.Copy.{copiedOf, copiedNumber, packedIn, unpackedIn}
 

@@ -11,7 +11,6 @@ use Rattle.imgproc.specs.declared.illumination.BackgroundDivideConfig.{Backgrou
 use Rattle.imgproc.specs.declared.grid.TileThresholdConfig.{TileThresholdConfig}
 use Rattle.imgproc.specs.declared.threshold.SauvolaConfig.{SauvolaConfig}
 use Rattle.imgproc.specs.declared.reading.ReadingConfig.{ReadingConfig}
-use Rattle.imgproc.specs.declared.reading.ReadingCounts.{ReadingCounts}
 use Rattle.imgproc.specs.declared.reading.Read.{Read}
 use Rattle.imgproc.specs.declared.reading.Read.the-variants.{Counts, Refused as Read·Refused}
 use Rattle.imgproc.specs.GridCalls.{gridSettingsCheck}

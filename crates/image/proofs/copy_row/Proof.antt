@@ -1,9 +1,9 @@
 -- `copy_row` makes the destination the source, byte by byte: the bytes below i are copied. Assumes nothing.
 use native.Mathlib.Omega.{arith}
 use native.Mathlib.Nat.{ne-of-lt}
-use Prim.Native.Nat.{ℕ, _+_, _-_, _≤_, _<_}
-use mathlib.Core.Path.{_≡_, refl, sym, _∙_}
-use lib.ListN.{length, getD, set, length-set}
+use Prim.Native.Nat.{ℕ, _-_, _≤_, _<_}
+use mathlib.Core.Path.{_≡_, refl, _∙_}
+use lib.ListN.{length, getD, length-set}
 use lib.Seq.{getD-set-same, getD-set-other, ext-getD}
 use borrow.Author.Count.{below-more}
 use denote.Ref.{now}

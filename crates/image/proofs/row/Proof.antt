@@ -4,7 +4,6 @@ use native.Mathlib.Omega.{arith}
 use denote.Ref.{now}
 use lib.ListN.{length}
 use mathlib.Core.Path.{_∙_, ap}
-use mathlib.Core.List.{List}
 use native.Mathlib.Nat.{add-sub-cancel-left}
 use Prim.Native.Nat.{ℕ, _+_, _*_, _≤_}
 use Rattle.image.specs.Plane.{part}

@@ -1,7 +1,5 @@
 -- `validate_layout` gives the first refusal that fits. Each way out is a law of Ways. Assumes nothing.
 use borrow.Author.Needs.{needs}
-use native.Mathlib.Nat.{pos-of-ne-zero}
-use native.Mathlib.Omega.{arith}
 use Rattle.image.proofs.Ways.{no-width, no-height, short-stride, no-row, few-rows, too-wide, too-high, fits}
 use Rattle.image.proofs.validate_layout.Statement.{statement}
 use Rattle.image.proofs.validate_layout.Tie as tie

@@ -1,8 +1,7 @@
 -- `flatten` packs, closes and divides; the copy is never refused. Assumes nothing.
 use borrow.Author.Needs.{needs}
 use denote.Ref.{now}
-use Rattle.imgproc.proofs.DivisionRuns.{close-ready, close-long, flattened}
-use native.Mathlib.Omega.{arith}
+use Rattle.imgproc.proofs.DivisionRuns.{close-ready, flattened}
 use Rattle.imgproc.proofs.illumination.flatten.Statement.{statement}
 use Rattle.imgproc.proofs.illumination.flatten.Tie as tie
 

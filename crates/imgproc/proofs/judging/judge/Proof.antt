@@ -1,11 +1,8 @@
 -- `judge` meets its contract: the tile's mark first, then the threshold. Assumes nothing.
-use borrow.Author.Needs.{needs}
 use native.Mathlib.Omega.{arith}
 use Prim.Native.Nat.{_+_, _*_, _/_, _<_}
-use mathlib.Core.Path.{_≡_, ap}
 use lib.ListN.{length}
 use denote.Ref.{now}
-use Rattle.imgproc.specs.Grid.{tilesX}
 use Rattle.imgproc.proofs.JudgeLaws.{tile-within, place-within, is-skipped, is-dark, is-light}
 use Rattle.imgproc.proofs.judging.judge.Statement.{statement}
 use Rattle.imgproc.proofs.judging.judge.Tie as tie
