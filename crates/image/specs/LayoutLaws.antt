@@ -22,10 +22,14 @@ passed : {A : Type 0} (b : Bool) (a x v : A) → (a ≡ v → ⊥) → cond b a 
 passed true a x v n e = absurd (n e)
 passed false a x v n e = (refl, e)
 
--- neither of two tests holds
-neither : (a b : Bool) → (a || b) ≡ false → (a ≡ false) × (b ≡ false)
+-- of two tests neither holds, or both do
+pub neither : (a b : Bool) → (a || b) ≡ false → (a ≡ false) × (b ≡ false)
 neither true b e = let z : _≡_ {A = ℕ} 0 1 = cc in absurd (omega arith)
 neither false b e = (refl, e)
+
+pub both : (a b : Bool) → (a && b) ≡ true → (a ≡ true) × (b ≡ true)
+both true b e = (refl, e)
+both false b e = let z : _≡_ {A = ℕ} 0 1 = cc in absurd (omega arith)
 
 never : (e : LumaError) (g : Geometry) → Invalid e ≡ Valid g → ⊥
 never e g p = let z : _≡_ {A = ℕ} 0 1 = cc in omega arith
@@ -90,10 +94,6 @@ module _ (len : ℕ) (g v : Geometry) where
   asked-inside (Valid u) true e = (e, refl)
   asked-inside (Valid u) false e = absurd (never OutsidePicture v e)
   asked-inside (Invalid r) b e = absurd (never r v e)
-
-  both : (a b : Bool) → (a && b) ≡ true → (a ≡ true) × (b ≡ true)
-  both true b e = (refl, e)
-  both false b e = let z : _≡_ {A = ℕ} 0 1 = cc in absurd (omega arith)
 
   pub row-inside : (y : ℕ) → rowLayout len g y ≡ Valid v → (Kept len g × (g ≡ v)) × (ltb y (g .height) ≡ true)
   row-inside y e = let a = asked-inside (layoutOf len g) (ltb y (g .height)) e in (kept-as len g v (a .0), a .1)

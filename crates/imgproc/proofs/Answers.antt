@@ -10,6 +10,7 @@ use lib.ListN.{length}
 use borrow.Author.Tests.{ltb-false, eqb-false}
 use Rattle.image.specs.declared.Geometry.{Geometry}
 use Rattle.image.specs.Layout.{sideLimit}
+use Rattle.image.specs.LayoutLaws.{neither}
 use Rattle.imgproc.specs.declared.ImgProcError.{ImgProcError}
 use Rattle.imgproc.specs.declared.ImgProcError.the-variants.{InvalidConfiguration, WorkspaceTooSmall}
 use Rattle.imgproc.specs.declared.Check.the-variants.{Accepted, Refused}
@@ -18,7 +19,7 @@ use Rattle.imgproc.specs.declared.threshold.Binarized.the-variants.{Done
 use Rattle.imgproc.specs.Refusals.{refusedIf, pairCheck, sauvolaSettings, settingsAndRoom, tableEntries}
 use Rattle.imgproc.specs.Sauvola.{binarisedInto, Binarizes}
 use Rattle.imgproc.specs.Tables.{InRange}
-use Rattle.imgproc.proofs.CheckLaws.{then-refused, then-accepted, both-accepted, not-refused, neither}
+use Rattle.imgproc.specs.RefusalLaws.{then-refused, then-accepted, both-accepted, not-refused}
 
 -- the entries of a table fit
 pub entries-small : (w h : ℕ) → w ≤ sideLimit → h ≤ sideLimit → (w + 1) * (h + 1) ≤ (sideLimit + 1) * (sideLimit + 1)

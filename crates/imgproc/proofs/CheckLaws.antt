@@ -1,8 +1,6 @@
--- Checks one after another: what an accepted check says of each, which refusal counts, and the ways out of a call with two pictures. Assumes nothing.
+-- The ways out of a call with two pictures. Assumes nothing.
 use Prim.Native.Nat.{ℕ}
-use native.Mathlib.Omega.{arith}
-use mathlib.Core.Path.{_≡_, refl, sym, ap, _∙_, subst}
-use mathlib.Core.Bool.{Bool, true, false, _||_}
+use mathlib.Core.Path.{_≡_, sym, ap, _∙_, subst}
 use borrow.Author.Tests.{eq-eqb, ne-eqb}
 use Rattle.image.specs.declared.Geometry.{Geometry}
 use Rattle.image.specs.declared.LumaError.{LumaError}
@@ -10,36 +8,9 @@ use Rattle.image.specs.declared.Layout.{Layout}
 use Rattle.image.specs.declared.Layout.the-variants.{Valid, Invalid}
 use Rattle.image.specs.Layout.{Kept, layoutOf, refusalOf}
 use Rattle.image.specs.LayoutLaws.{kept-as}
-use Rattle.imgproc.specs.declared.ImgProcError.{ImgProcError}
 use Rattle.imgproc.specs.declared.ImgProcError.the-variants.{Image, DimensionMismatch}
-use Rattle.imgproc.specs.declared.Check.{Check}
 use Rattle.imgproc.specs.declared.Check.the-variants.{Accepted, Refused}
-use Rattle.imgproc.specs.Refusals.{_then_, refusedIf, pairCheck}
-
-never : (e : ImgProcError) → Refused e ≡ Accepted → ⊥
-never e p = let z : _≡_ {A = ℕ} 0 1 = cc in omega arith
-
--- the first refusal counts, and after a check that is accepted the next one does
-pub then-refused : {a : Check} (b : Check) {e : ImgProcError} → a ≡ Refused e → (a then b) ≡ Refused e
-then-refused b p = ap (λ (c : Check). c then b) p
-
-pub then-accepted : {a : Check} (b : Check) → a ≡ Accepted → (a then b) ≡ b
-then-accepted b p = ap (λ (c : Check). c then b) p
-
--- where two checks are accepted, each is
-pub both-accepted : (a b : Check) → (a then b) ≡ Accepted → (a ≡ Accepted) × (b ≡ Accepted)
-both-accepted Accepted b p = (refl, p)
-both-accepted (Refused e) b p = absurd (never e p)
-
--- a condition that was not refused does not hold
-pub not-refused : (b : Bool) (e : ImgProcError) → refusedIf b e ≡ Accepted → b ≡ false
-not-refused true e p = absurd (never e p)
-not-refused false e p = refl
-
--- neither of two conditions holds
-pub neither : (a b : Bool) → (a || b) ≡ false → (a ≡ false) × (b ≡ false)
-neither true b p = let z : _≡_ {A = ℕ} 0 1 = cc in absurd (omega arith)
-neither false b p = (refl, p)
+use Rattle.imgproc.specs.Refusals.{pairCheck}
 
 -- a layout that was opened is the one that was asked for, and its slice holds it
 module _ (len : ℕ) (g : Geometry) {l : Layout} (is : l ≡ layoutOf len g) {v : Geometry} (i : l ≡ Valid v) where

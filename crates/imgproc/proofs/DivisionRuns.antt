@@ -1,13 +1,10 @@
 -- The work of an accepted division: what is packed, closed, divided and painted is the contract's picture; and the ways out of its settings. Assumes nothing.
 use mathlib.Core.Path.{_≡_, refl, sym, ap, ap₂, _∙_, subst}
-use mathlib.Core.Bool.{_||_}
 use mathlib.Core.List.{List}
 use Prim.Native.Nat.{ℕ, _+_, _*_, _%_, _≤_, _<_}
 use native.Mathlib.Omega.{arith}
-use lib.Dec.{ltb, eqb}
 use lib.ListN.{length}
-use native.Mathlib.Nat.{pos-of-ne-zero}
-use borrow.Author.Tests.{eq-eqb, ne-eqb, lt-ltb, le-ltb, ltb-false, eqb-false}
+use borrow.Author.Tests.{eq-eqb, ne-eqb, lt-ltb, le-ltb}
 use Rattle.image.specs.declared.Geometry.{Geometry}
 use Rattle.image.specs.declared.Copied.{Copied}
 use Rattle.image.specs.Plane.{pixel, packed, painted, part, overwritten}
@@ -21,10 +18,9 @@ use Rattle.imgproc.specs.declared.morphology.Compared.the-variants.{Comp
 use Rattle.imgproc.specs.declared.tally.Tally.{Tally}
 use Rattle.imgproc.specs.Morphology.{closed}
 use Rattle.imgproc.specs.Sweeps.{TwiceReady, TwiceMorphed}
-use Rattle.imgproc.specs.Refusals.{badKernel, divisionSettings, divisionCheck}
+use Rattle.imgproc.specs.Refusals.{divisionSettings, divisionCheck}
 use Rattle.imgproc.specs.Division.{quotient, dividedBy, divided, FlattenReady, Flattened, DivideReady, Divided, Divides}
 use Rattle.image.specs.LayoutLaws.{area-small}
-use Rattle.imgproc.proofs.CheckLaws.{neither, not-refused}
 use Rattle.imgproc.proofs.Copies.{packs-plane, unpacks-done}
 use Rattle.imgproc.proofs.MorphologyRuns.{twice-ready}
 
@@ -103,14 +99,6 @@ module _ (d : BackgroundDivideConfig) where
 
   pub settings-good : 3 ≤ d .«structuring_element» → (d .«structuring_element» % 2 ≡ 0 → ⊥) → (d .«denominator_floor» ≡ 0 → ⊥) → Accepted ≡ divisionSettings d
   settings-good l o x = simp (le-ltb (d .«structuring_element») 3 l, ne-eqb (d .«structuring_element» % 2) 0 o, ne-eqb (d .«denominator_floor») 0 x)
-
-  -- what accepted settings say
-  pub settings-say : divisionSettings d ≡ Accepted → (3 ≤ d .«structuring_element») × (0 < d .«denominator_floor»)
-  settings-say p =
-      let n = neither (badKernel (d .«structuring_element»)) (eqb (d .«denominator_floor») 0) (not-refused (badKernel (d .«structuring_element») || eqb (d .«denominator_floor») 0) InvalidConfiguration p) in (
-        ltb-false (d .«structuring_element») 3 (neither (ltb (d .«structuring_element») 3) (eqb (d .«structuring_element» % 2) 0) (n .0) .0),
-        pos-of-ne-zero (eqb-false (d .«denominator_floor») 0 (n .1)),
-      )
 
 -- ---- the contract
 module _ (src : List ℕ) (s : Geometry) (dst : List ℕ) (t : Geometry) (d : BackgroundDivideConfig) (ws : List ℕ) where

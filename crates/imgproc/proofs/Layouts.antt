@@ -10,7 +10,8 @@ use Rattle.imgproc.specs.declared.ImgProcError.the-variants.{Image, Dime
 use Rattle.imgproc.specs.declared.Check.{Check}
 use Rattle.imgproc.specs.declared.Check.the-variants.{Refused}
 use Rattle.imgproc.specs.Refusals.{_then_, pairCheck}
-use Rattle.imgproc.proofs.CheckLaws.{same-here, then-refused, then-accepted, source-refused, destination-refused, width-refused, height-refused, pair-accepted}
+use Rattle.imgproc.specs.RefusalLaws.{then-refused, then-accepted}
+use Rattle.imgproc.proofs.CheckLaws.{same-here, source-refused, destination-refused, width-refused, height-refused, pair-accepted}
 
 -- a geometry, as the code takes it out, is the given one
 pub taken-same : (len : ℕ) (s : Geometry) {l : Layout} → l ≡ layoutOf len s → {g : Geometry} → l ≡ Valid g → g ≡ s

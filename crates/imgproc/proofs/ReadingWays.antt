@@ -2,13 +2,14 @@
 use mathlib.Core.Path.{_≡_, refl, ap, subst}
 use mathlib.Core.Bool.{_||_}
 use mathlib.Core.List.{List}
-use Prim.Native.Nat.{ℕ, _+_, _*_, _%_, _≤_, _<_}
+use Prim.Native.Nat.{ℕ, _+_, _*_, _≤_, _<_}
 use native.Mathlib.Nat.{mul-le-mul}
 use native.Mathlib.Omega.{arith}
-use lib.Dec.{ltb, eqb}
+use lib.Dec.{ltb}
 use lib.ListN.{length}
 use borrow.Author.Tests.{lt-ltb, le-ltb, ltb-false}
 use Rattle.image.specs.declared.Geometry.{Geometry}
+use Rattle.image.specs.LayoutLaws.{neither}
 use Rattle.imgproc.specs.declared.reading.ReadingConfig.{ReadingConfig}
 use Rattle.imgproc.specs.declared.reading.ReadingCounts.{ReadingCounts}
 use Rattle.imgproc.specs.declared.reading.Read.the-variants.{Counts, Refused as Read·Refused}
@@ -22,8 +23,7 @@ use Rattle.imgproc.specs.Tables.{InRange}
 use Rattle.imgproc.specs.Tiles.{Sized}
 use Rattle.imgproc.specs.Reading.{readingSettings, readingRoom, readingCheck, Reads}
 use Rattle.imgproc.specs.ReadingSteps.{ReadDone}
-use Rattle.imgproc.proofs.CheckLaws.{both-accepted, not-refused, neither}
-use Rattle.imgproc.proofs.DivisionRuns.{settings-say}
+use Rattle.imgproc.specs.RefusalLaws.{both-accepted, not-refused, kernel-says, division-says}
 use Rattle.imgproc.proofs.Answers.{in-range}
 use Rattle.imgproc.proofs.grid.Ways.{sides-taken}
 
@@ -41,13 +41,13 @@ says s p =
     let a = both-accepted (divisionSettings (s .division)) (refusedIf (badKernel (s .«opening_kernel»)) InvalidKernel then (gridSettingsCheck (s .grid) then sauvolaSettings (s .sauvola))) p in
     let b = both-accepted (refusedIf (badKernel (s .«opening_kernel»)) InvalidKernel) (gridSettingsCheck (s .grid) then sauvolaSettings (s .sauvola)) (a .1) in
     let c = both-accepted (gridSettingsCheck (s .grid)) (sauvolaSettings (s .sauvola)) (b .1) in
-    let d = settings-say (s .division) (a .0) in
-    let k = neither (ltb (s .«opening_kernel») 3) (eqb (s .«opening_kernel» % 2) 0) (not-refused (badKernel (s .«opening_kernel»)) InvalidKernel (b .0)) in
+    let d = division-says (s .division) (a .0) in
+    let k = kernel-says (s .«opening_kernel») (not-refused (badKernel (s .«opening_kernel»)) InvalidKernel (b .0)) in
     let t = sides-taken (s .grid) (c .0) in
     record {
       element = omega (arith, d .0);
       floor = d .1;
-      kernel = omega (arith, ltb-false (s .«opening_kernel») 3 (k .0));
+      kernel = omega (arith, k);
       tile-width = t .0;
       tile-height = t .1;
       settings = in-range (s .sauvola) (c .1);

@@ -60,6 +60,10 @@ Between a b i = (a ≤ i) × (i ≤ b)
 abbrev pub Inside : Box → ℕ × ℕ → Type 0
 Inside b p = Between (b .left) (b .right) (p .0) × Between (b .top) (b .bottom) (p .1)
 
+-- a and b are at most r apart
+abbrev pub Near : ℕ → ℕ → ℕ → Type 0
+Near r a b = (a ≤ b + r) × (b ≤ a + r)
+
 -- a box that has a pixel
 pub record Some (b : Box) : Type 0 where
   pub across : b .left ≤ b .right

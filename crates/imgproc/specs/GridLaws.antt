@@ -7,7 +7,7 @@ use native.Mathlib.Omega.{arith}
 use Rattle.imgproc.specs.declared.grid.TileThresholdConfig.{TileThresholdConfig}
 use Rattle.imgproc.specs.Reach.{low, high, ceiling}
 use Rattle.imgproc.specs.Grid.{tilesX, tilesY, tileFrom, tileTo, around}
-use Rattle.imgproc.specs.Extremes.{Between, Inside, Some}
+use Rattle.imgproc.specs.Extremes.{Near, Between, Inside, Some}
 
 -- ---- tile counts
 
@@ -34,10 +34,6 @@ pub ceiling-some : (n t : ℕ) → 0 < t → 0 < n → 0 < ceiling n t
 ceiling-some n t T N = le-div-iff-mul-le {k = t} {x = 1} {y = n + t - 1} T .1 (omega arith)
 
 -- ---- which pixels
-
--- a and b are at most r apart
-abbrev pub Near : ℕ → ℕ → ℕ → Type 0
-Near r a b = (a ≤ b + r) × (b ≤ a + r)
 
 -- the neighbourhood of a tile holds, along an axis of n with tiles of t, just the samples whose tile is within the radius of tile a
 pub near-tiles : (r n t a i : ℕ) → 0 < t → i < n → Between (tileFrom t (low r a)) (tileTo t n (high r (ceiling n t) a)) i ↔ Near r a (i / t)

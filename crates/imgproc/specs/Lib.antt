@@ -1,5 +1,6 @@
 -- What the contracts of `imgproc` say: a file for each part of document 01, and the laws about them.
 pub mod Refusals
+pub mod RefusalLaws
 pub mod Fold
 pub mod Reach
 pub mod Extremes
@@ -26,6 +27,7 @@ pub mod GridCalls
 pub mod Reading
 pub mod ReadingSteps
 pub mod ReadingLaws
+pub mod ReadingMeans
 pub mod Cases
 pub mod PicturesSauvola
 pub mod PicturesGrid

@@ -5,15 +5,11 @@ use native.Mathlib.Omega.{arith}
 use mathlib.Core.Path.{sym, subst}
 use mathlib.Core.Logic.{_↔_}
 use Rattle.imgproc.specs.Fold.{Box}
-use Rattle.imgproc.specs.Extremes.{Inside, Some}
+use Rattle.imgproc.specs.Extremes.{Near, Inside, Some}
 use Rattle.imgproc.specs.Sums.{sum, sumSquares, count, squared}
 use Rattle.imgproc.specs.SumLaws.{fold-box-sum, count-is, mean-square}
 use Rattle.imgproc.specs.WholeRoot.{IsRoot, wholeRoot-is}
 use Rattle.imgproc.specs.Sauvola.{window, mean, variance, spread}
-
--- a and b are at most r apart
-abbrev pub Near : ℕ → ℕ → ℕ → Type 0
-Near r a b = (a ≤ b + r) × (b ≤ a + r)
 
 module _ (r w h x y : ℕ) (X : x < w) (Y : y < h) where
   -- the window of (x, y) holds just the pixels of the picture within the radius on both axes

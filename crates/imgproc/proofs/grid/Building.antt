@@ -20,7 +20,7 @@ use Rattle.imgproc.specs.Grid.{tilesX, tilesY, thresholds, skips}
 use Rattle.imgproc.specs.GridCalls.{gridSettingsCheck, tileCount, gridRoomCheck, buildCheck, builtOf, Builds, Rooms, Fills}
 use Rattle.imgproc.specs.Refusals.{_then_, layoutCheck, leftBy, Lent}
 use Rattle.imgproc.specs.Tiles.{Sized}
-use Rattle.imgproc.proofs.CheckLaws.{then-accepted, then-refused, both-accepted}
+use Rattle.imgproc.specs.RefusalLaws.{then-accepted, then-refused, both-accepted}
 use Rattle.imgproc.proofs.grid.Ways.{sides-taken, room-taken}
 
 module _ (src : List ℕ) (s : Geometry) (g : TileThresholdConfig) (ws th sk : List ℕ) {l : Layout} (is : l ≡ layoutOf (length src) s) where

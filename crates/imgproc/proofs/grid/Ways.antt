@@ -7,12 +7,13 @@ use lib.Dec.{ltb, eqb}
 use mathlib.Core.List.{List}
 use lib.ListN.{length}
 use borrow.Author.Tests.{ltb-false, eqb-false}
+use Rattle.image.specs.LayoutLaws.{neither}
 use Rattle.imgproc.specs.declared.ImgProcError.the-variants.{InvalidConfiguration, WorkspaceTooSmall, GridBufferTooSmall}
 use Rattle.imgproc.specs.declared.Check.the-variants.{Accepted}
 use Rattle.imgproc.specs.declared.grid.TileThresholdConfig.{TileThresholdConfig}
 use Rattle.imgproc.specs.GridCalls.{usableMethod, gridSettingsCheck, gridRoomCheck, Rooms}
 use Rattle.imgproc.specs.Refusals.{refusedIf}
-use Rattle.imgproc.proofs.CheckLaws.{both-accepted, not-refused, neither}
+use Rattle.imgproc.specs.RefusalLaws.{both-accepted, not-refused}
 
 -- tile sides above 0
 pub sides-taken : (g : TileThresholdConfig) → gridSettingsCheck g ≡ Accepted → (0 < g .«tile_width») × (0 < g .«tile_height»)

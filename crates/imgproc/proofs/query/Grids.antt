@@ -8,6 +8,7 @@ use lib.Dec.{ltb, eqb}
 use borrow.Author.Tests.{ltb-true, ltb-false, eqb-true, eqb-false}
 use Rattle.image.specs.Layout.{sideLimit}
 use Rattle.image.specs.declared.LumaError.the-variants.{OutsidePicture}
+use Rattle.image.specs.LayoutLaws.{neither}
 use Rattle.imgproc.specs.declared.ImgProcError.{ImgProcError}
 use Rattle.imgproc.specs.declared.ImgProcError.the-variants.{Image, InvalidConfiguration, GridBufferTooSmall}
 use Rattle.imgproc.specs.declared.Check.{Check}
@@ -19,7 +20,7 @@ use Rattle.imgproc.specs.Reach.{ceiling}
 use Rattle.imgproc.specs.GridLaws.{ceiling-small}
 use Rattle.imgproc.specs.GridCalls.{badSide, badGrid, queryCheck, placeBy, tileOf, pixelPlace, rowPlace, placeRefusal}
 use Rattle.imgproc.specs.Refusals.{_then_, refusedIf}
-use Rattle.imgproc.proofs.CheckLaws.{both-accepted, not-refused, neither}
+use Rattle.imgproc.specs.RefusalLaws.{both-accepted, not-refused}
 
 -- a grid that is one
 pub record Sound (q : TileThresholdGrid) : Type 0 where

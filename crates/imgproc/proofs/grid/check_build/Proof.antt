@@ -4,7 +4,7 @@ use mathlib.Core.Path.{sym, ap, _∙_}
 use native.Mathlib.Omega.{arith}
 use Rattle.imgproc.specs.GridCalls.{tileCount, gridRoomCheck}
 use Rattle.imgproc.specs.Tiles.{Sized}
-use Rattle.imgproc.proofs.CheckLaws.{then-accepted, then-refused}
+use Rattle.imgproc.specs.RefusalLaws.{then-accepted, then-refused}
 use Rattle.imgproc.proofs.grid.Ways.{sides-taken}
 use Rattle.imgproc.proofs.tiles.Counts.{few, total}
 use borrow.Author.Needs.{needs}

@@ -12,10 +12,11 @@ use Rattle.imgproc.specs.declared.illumination.BackgroundDivideConfig.{B
 use Rattle.imgproc.specs.declared.Check.{Check}
 use Rattle.imgproc.specs.declared.ImgProcError.the-variants.{WorkspaceTooSmall}
 use Rattle.imgproc.specs.Refusals.{_then_, refusedIf, divisionSettings}
-use Rattle.imgproc.proofs.CheckLaws.{kept-here, then-refused, then-accepted}
+use Rattle.imgproc.specs.RefusalLaws.{then-refused, then-accepted, division-says}
+use Rattle.imgproc.proofs.CheckLaws.{kept-here}
 use Rattle.imgproc.proofs.Layouts.{taken-same, pair-source, pair-target, pair-wide, pair-high, pair-same}
 use Rattle.imgproc.proofs.MorphologyWays.{room-short, room-enough}
-use Rattle.imgproc.proofs.DivisionRuns.{settings-say, refused, done}
+use Rattle.imgproc.proofs.DivisionRuns.{refused, done}
 use Rattle.imgproc.proofs.illumination.background_divide_into.Statement.{statement}
 use Rattle.imgproc.proofs.illumination.background_divide_into.Tie as tie
 
@@ -161,7 +162,7 @@ divide-picture-requires c κs =
     let told1 = v2 .before in
     let v1 = told1 .before .before .before in
     let a = v1 .before .before .before .before .args in
-    let good = settings-say (a .config) (sym (s .check-settings .ensures) ∙ told3 .enum-told3 .given .1) in
+    let good = division-says (a .config) (sym (s .check-settings .ensures) ∙ told3 .enum-told3 .given .1) in
     record {
       from = kept-here _ _ (v1 .validate-layout .ensures) (told1 .before .layout .given .1);
       to = kept-here _ _ (v2 .validate-layout2 .ensures) (told2 .before .target .given .1);

@@ -6,7 +6,7 @@ use Rattle.imgproc.specs.declared.ImgProcError.the-variants.{InvalidKern
 use Rattle.imgproc.specs.declared.reading.ReadingConfig.{ReadingConfig}
 use Rattle.imgproc.specs.Refusals.{_then_, refusedIf, badKernel, sauvolaSettings}
 use Rattle.imgproc.specs.GridCalls.{gridSettingsCheck}
-use Rattle.imgproc.proofs.CheckLaws.{then-refused, then-accepted}
+use Rattle.imgproc.specs.RefusalLaws.{then-refused, then-accepted}
 use Rattle.imgproc.proofs.MorphologyWays.{kernel-small, kernel-even, kernel-good}
 use Rattle.imgproc.proofs.reading.check_settings.Statement.{statement}
 use Rattle.imgproc.proofs.reading.check_settings.Tie as tie

@@ -9,7 +9,8 @@ use Rattle.imgproc.specs.declared.reading.ReadingConfig.{ReadingConfig}
 use Rattle.imgproc.specs.declared.Check.{Check}
 use Rattle.imgproc.specs.Refusals.{_then_}
 use Rattle.imgproc.specs.Reading.{readingSettings, readingRoom}
-use Rattle.imgproc.proofs.CheckLaws.{kept-here, then-refused, then-accepted}
+use Rattle.imgproc.specs.RefusalLaws.{then-refused, then-accepted}
+use Rattle.imgproc.proofs.CheckLaws.{kept-here}
 use Rattle.imgproc.proofs.Layouts.{taken-same, pair-source, pair-target, pair-wide, pair-high, pair-same}
 use Rattle.imgproc.proofs.ReadingWays.{says, room-says, refused, done}
 use Rattle.imgproc.proofs.reading.reading.Statement.{statement}

@@ -3,8 +3,7 @@
 -- `walk` has a line for each statement of the MIR; its numbers are positions in the context, which the lines in brackets list. All that it knows of the sweeps is `Called.antt`; the plain facts are `MorphFacts.antt`'s.
 -- Assumes nothing.
 use mathlib.Core.Path.{_≡_, refl, sym, _∙_, subst}
-use mathlib.Core.Bool.{Bool, true, false}
-use Prim.Native.Nat.{ℕ, _<_, _^_}
+use Prim.Native.Nat.{ℕ}
 use mathlib.Core.List.{[], _∷_, List}
 use lib.Dec.{T as Holds}
 use lib.ListN.{length}
@@ -30,7 +29,7 @@ use denote.Laws.{Is}
 use denote.Plain.{uint-makes, uint-vals, uint-tells, bool-makes, bool-vals, bool-tells}
 use denote.Builtin.{bool, u8, usize}
 use denote.Ref.{RefT}
-use denote.Slice.{sliceVal, MutSlice, ShrSlice, Room, finally, slice-vals, mut-slice-tells, shr-slice-tells, shr-slice-copy, shr-slice-lawful}
+use denote.Slice.{sliceVal, MutSlice, Room, finally, slice-vals, mut-slice-tells}
 use denote.Signature.{plain}
 use denote.Steps.{owned, nothing}
 use denote.Struct.Laws as LL
@@ -39,7 +38,7 @@ use denote.Triple.Spec.{Meets, tripleOf}
 use denote.Triple.Statement.{Triple}
 use denote.Triple.Call.{calls-at}
 use denote.Triple.Table.{entered, cited}
-use denote.Triple.Walked.{says, needs, Stays, stay-slice, stay-none, stay-none-slice, gave-slice, walkOf, goes-slice, goes-none, goes-none-slice, goes-gave-slice, Walks, ends-at, walked, walk-meets}
+use denote.Triple.Walked.{says, needs, Stays, stay-none, gave-slice, walkOf, goes-none, goes-gave-slice, Walks, ends-at, walked, walk-meets}
 use denote.Exit.{yes}
 use Rattle.imgproc.specs.declared.tally.Tally.{Tally}
 use Rattle.imgproc.proofs.tally.Tally as T

@@ -6,7 +6,7 @@ use mathlib.Core.Path.{_≡_, sym, _∙_}
 use borrow.Author.Tests.{lt-ltb, le-ltb}
 use Rattle.imgproc.specs.declared.Check.the-variants.{Accepted}
 use Rattle.imgproc.specs.Refusals.{sauvolaSettings, tableEntries}
-use Rattle.imgproc.proofs.CheckLaws.{then-refused, then-accepted}
+use Rattle.imgproc.specs.RefusalLaws.{then-refused, then-accepted}
 use Rattle.imgproc.proofs.Answers.{entries-small}
 use Rattle.imgproc.proofs.threshold.check_room.Statement.{statement}
 use Rattle.imgproc.proofs.threshold.check_room.Tie as tie
