@@ -1,8 +1,8 @@
--- What an accepted reading means, drawn from its contract alone: which pixels are judged dark, what each byte of the destination holds afterwards,
--- and that nothing but settings and pixels counts. Assumes nothing.
+-- What a reading means, drawn from its contract alone: which pixels are judged dark, what each byte of the destination holds afterwards,
+-- that nothing but settings and pixels counts, and that a refused one keeps every byte. Assumes nothing.
 use Prim.Native.Nat.{ℕ, _+_, _*_, _/_, _%_, _≤_, _<_}
 use native.Mathlib.Omega.{arith}
-use mathlib.Core.Path.{_≡_, refl, sym, ap, _∙_}
+use mathlib.Core.Path.{_≡_, refl, sym, ap, subst, _∙_}
 use mathlib.Core.Bool.{Bool, true, false, cond, _&&_}
 use mathlib.Core.Logic.{_↔_}
 use mathlib.Core.List.{List}
@@ -18,11 +18,12 @@ use Rattle.imgproc.specs.declared.reading.ReadingConfig.{ReadingConfig}
 use Rattle.imgproc.specs.declared.reading.ReadingCounts.{ReadingCounts}
 use Rattle.imgproc.specs.declared.judging.Judgement.{Judgement}
 use Rattle.imgproc.specs.declared.judging.Judgement.the-variants.{Dark, Light, Skipped}
-use Rattle.imgproc.specs.declared.reading.Read.the-variants.{Counts}
+use Rattle.imgproc.specs.declared.reading.Read.the-variants.{Counts, Refused as Read·Refused}
+use Rattle.imgproc.specs.declared.ImgProcError.{ImgProcError}
 use Rattle.imgproc.specs.declared.ImgProcError.the-variants.{InvalidKernel}
 use Rattle.imgproc.specs.declared.Check.{Check}
 use Rattle.imgproc.specs.declared.Check.the-variants.{Accepted, Refused}
-use Rattle.imgproc.specs.Refusals.{_then_, refusedIf, pairCheck, badKernel, divisionSettings, sauvolaSettings, leftBy}
+use Rattle.imgproc.specs.Refusals.{_then_, refusedIf, pairCheck, badKernel, divisionSettings, sauvolaSettings, leftBy, Lent}
 use Rattle.imgproc.specs.RefusalLaws.{both-accepted, not-refused, kernel-says, division-says, Pair, pair-says}
 use Rattle.imgproc.specs.Grid.{skipOf}
 use Rattle.imgproc.specs.GridCalls.{gridSettingsCheck}
@@ -179,3 +180,23 @@ module _ {s : ReadingConfig} (a b : AcceptedReading s) (wide : a .source .width 
       pixel-holds a x y X Y
       ∙ (rw (one-picture, wide, high))
       ∙ sym (pixel-holds b x y (omega arith) (omega arith))
+
+-- a refused reading: the first condition that fits gives its refusal, and every lent byte is as it was
+module _ (src : List ℕ) (source : Geometry) (dst : List ℕ) (target : Geometry) (s : ReadingConfig) (bytes words : List ℕ) (e : ImgProcError) (dst′ bytes′ words′ : List ℕ)
+    (reads : Reads src source dst target s bytes words (Read·Refused e) dst′ bytes′ words′) where
+  pub refused-by : readingCheck (length src) source (length dst) target s (length bytes) (length words) ≡ Refused e
+  refused-by = turned (readingCheck (length src) source (length dst) target s (length bytes) (length words)) _ (reads .answers)
+    where
+      turned : (c : Check) (q : ReadingCounts) → Read·Refused e ≡ readBy c q → c ≡ Refused e
+      turned Accepted q p = let z : _≡_ {A = ℕ} 0 1 = cc in absurd (omega arith)
+      turned (Refused f) q p = cc
+
+  pub refused-keeps : (dst′ ≡ dst) × ((bytes′ ≡ bytes) × (words′ ≡ words))
+  refused-keeps =
+      let after = painted (marked s (source .width) (source .height) (packed src (source .width) (source .height) (source .stride))) (source .width) (source .height) (target .stride) dst in (
+        reads .leaves ∙ ap (λ (c : Check). leftBy c after dst) refused-by,
+        (
+          subst (λ (c : Check). Lent c bytes bytes′) refused-by (reads .bytes-left),
+          subst (λ (c : Check). Lent c words words′) refused-by (reads .words-left),
+        ),
+      )
