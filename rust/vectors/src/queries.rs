@@ -92,17 +92,19 @@ impl Query {
     }
 }
 
+type Refused = Condition<Query>;
+
 /// All but a column outside, which a row's question is not asked.
-fn conditions() -> Vec<Condition<Query>> {
+fn conditions() -> Vec<Refused> {
     vec![
-        Condition { number: 7, what: "no width", apply: |q| q.width = 0 },
-        Condition { number: 7, what: "no height", apply: |q| q.height = 0 },
-        Condition { number: 7, what: "no tile width", apply: |q| q.tile_width = 0 },
-        Condition { number: 7, what: "no tile height", apply: |q| q.tile_height = 0 },
-        Condition { number: 7, what: "a tile column too many", apply: |q| q.tiles_x += 1 },
-        Condition { number: 7, what: "a tile row too few", apply: |q| q.tiles_y -= 1 },
-        Condition { number: 10, what: "the buffer", apply: |q| q.room = 11 },
-        Condition { number: 9, what: "a row outside", apply: |q| q.y = 7 },
+        Refused::new(7, "no width", |q| q.width = 0),
+        Refused::new(7, "no height", |q| q.height = 0),
+        Refused::new(7, "no tile width", |q| q.tile_width = 0),
+        Refused::new(7, "no tile height", |q| q.tile_height = 0),
+        Refused::new(7, "a tile column too many", |q| q.tiles_x += 1),
+        Refused::new(7, "a tile row too few", |q| q.tiles_y -= 1),
+        Refused::new(10, "the buffer", |q| q.room = 11),
+        Refused::new(9, "a row outside", |q| q.y = 7),
     ]
 }
 

@@ -44,14 +44,21 @@ impl Lent {
 /// A condition under which a call is refused, and how a good call is brought under it.
 pub struct Condition<C> {
     pub number: u32,
-    pub what: &'static str,
-    pub apply: fn(&mut C),
+    what: &'static str,
+    pub apply: Box<dyn Fn(&mut C)>,
+}
+
+impl<C> Condition<C> {
+    pub fn new(number: u32, what: &'static str, apply: impl Fn(&mut C) + 'static) -> Self {
+        Self { number, what, apply: Box::new(apply) }
+    }
 }
 
 /// The conditions of a picture's layout, in document 01's order.
-pub fn layout<C>(names: [&'static str; 4], apply: [fn(&mut C); 4]) -> Vec<Condition<C>> {
-    let numbers = [1, 2, 3, 4];
-    (0..4).map(|i| Condition { number: numbers[i], what: names[i], apply: apply[i] }).collect()
+pub fn layout<C: 'static>(names: [&'static str; 4], picture: fn(&mut C) -> &mut Lent) -> Vec<Condition<C>> {
+    let changes = [Lent::empty, Lent::stride_too_small, Lent::too_short, Lent::too_wide];
+    let each = (1..).zip(names).zip(changes);
+    each.map(|((number, what), change)| Condition::new(number, what, move |call| change(picture(call)))).collect()
 }
 
 pub const SOURCE: [&str; 4] = ["source empty", "source stride", "source slice", "source side"];

@@ -52,23 +52,17 @@ fn answered(l: &mut List, call: &Build, number: u32) {
 /// The pattern of a NaN, with a sign and digits of its own.
 const OTHER_NAN: u64 = 0xfff0_0000_0000_0001;
 
-fn conditions() -> Vec<Condition<Build>> {
-    let mut list = layout(
-        SOURCE,
-        [
-            |c: &mut Build| c.source.empty(),
-            |c| c.source.stride_too_small(),
-            |c| c.source.too_short(),
-            |c| c.source.too_wide(),
-        ],
-    );
-    list.push(Condition { number: 7, what: "the tile width", apply: |c| c.tile_width = 0 });
-    list.push(Condition { number: 7, what: "the tile height", apply: |c| c.tile_height = 0 });
-    list.push(Condition { number: 7, what: "k", apply: |c| c.k = f64::INFINITY });
-    list.push(Condition { number: 7, what: "the range", apply: |c| c.dynamic_range = 0.0 });
-    list.push(Condition { number: 8, what: "the workspace", apply: |c| c.room -= 1 });
-    list.push(Condition { number: 10, what: "the thresholds", apply: |c| c.thresholds -= 1 });
-    list.push(Condition { number: 10, what: "the skips", apply: |c| c.skips -= 1 });
+type Refused = Condition<Build>;
+
+fn conditions() -> Vec<Refused> {
+    let mut list = layout(SOURCE, |c: &mut Build| &mut c.source);
+    list.push(Refused::new(7, "the tile width", |c| c.tile_width = 0));
+    list.push(Refused::new(7, "the tile height", |c| c.tile_height = 0));
+    list.push(Refused::new(7, "k", |c| c.k = f64::INFINITY));
+    list.push(Refused::new(7, "the range", |c| c.dynamic_range = 0.0));
+    list.push(Refused::new(8, "the workspace", |c| c.room -= 1));
+    list.push(Refused::new(10, "the thresholds", |c| c.thresholds -= 1));
+    list.push(Refused::new(10, "the skips", |c| c.skips -= 1));
     list
 }
 

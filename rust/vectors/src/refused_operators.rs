@@ -42,35 +42,21 @@ fn answered(l: &mut List, call: &Call, number: u32) {
     line(l, &call.fields(), &[number]);
 }
 
+type Refused = Condition<Call>;
+
 /// Layouts of the source and of the destination, then sizes that differ.
-fn pictures() -> Vec<Condition<Call>> {
-    let mut list = layout(
-        SOURCE,
-        [
-            |c: &mut Call| c.source.empty(),
-            |c| c.source.stride_too_small(),
-            |c| c.source.too_short(),
-            |c| c.source.too_wide(),
-        ],
-    );
-    list.extend(layout(
-        DESTINATION,
-        [
-            |c: &mut Call| c.destination.empty(),
-            |c| c.destination.stride_too_small(),
-            |c| c.destination.too_short(),
-            |c| c.destination.too_wide(),
-        ],
-    ));
-    list.push(Condition { number: 5, what: "sizes that differ", apply: |c| c.destination = Lent::new(10, 4, 2, 6) });
+fn pictures() -> Vec<Refused> {
+    let mut list = layout(SOURCE, |c: &mut Call| &mut c.source);
+    list.extend(layout(DESTINATION, |c: &mut Call| &mut c.destination));
+    list.push(Refused::new(5, "sizes that differ", |c| c.destination = Lent::new(10, 4, 2, 6)));
     list
 }
 
 /// The conditions on settings, which all have one number, and last the workspace.
-fn conditions(settings: Vec<Condition<Call>>) -> Vec<Condition<Call>> {
+fn conditions(settings: Vec<Refused>) -> Vec<Refused> {
     let mut list = pictures();
     list.extend(settings);
-    list.push(Condition { number: 8, what: "the workspace", apply: |c| c.room -= 1 });
+    list.push(Refused::new(8, "the workspace", |c| c.room -= 1));
     list
 }
 
@@ -147,7 +133,7 @@ pub fn morphology() -> List {
     );
     let good = Call::good(&[3], 72);
     answered(&mut l, &good, 0);
-    let kernel = vec![Condition { number: 6, what: "the kernel", apply: |c: &mut Call| c.settings[0] = 2 }];
+    let kernel = vec![Refused::new(6, "the kernel", |c| c.settings[0] = 2)];
     combined(&mut l, &good, &conditions(kernel), |call, number, l| answered(l, call, number));
     sizes(&mut l, &good);
     l.comment("kernels");
@@ -165,8 +151,8 @@ pub fn division() -> List {
     let good = Call::good(&[3, 200, 8], 84);
     answered(&mut l, &good, 0);
     let settings = vec![
-        Condition { number: 7, what: "the element", apply: |c: &mut Call| c.settings[0] = 2 },
-        Condition { number: 7, what: "the floor", apply: |c: &mut Call| c.settings[2] = 0 },
+        Refused::new(7, "the element", |c| c.settings[0] = 2),
+        Refused::new(7, "the floor", |c| c.settings[2] = 0),
     ];
     combined(&mut l, &good, &conditions(settings), |call, number, l| answered(l, call, number));
     sizes(&mut l, &good);
@@ -187,9 +173,9 @@ pub fn sauvola() -> List {
     let good = Call::good(&[8, 200, 128], 40);
     answered(&mut l, &good, 0);
     let settings = vec![
-        Condition { number: 7, what: "the radius", apply: |c: &mut Call| c.settings[0] = 0 },
-        Condition { number: 7, what: "k", apply: |c: &mut Call| c.settings[1] = 1001 },
-        Condition { number: 7, what: "the range", apply: |c: &mut Call| c.settings[2] = 0 },
+        Refused::new(7, "the radius", |c| c.settings[0] = 0),
+        Refused::new(7, "k", |c| c.settings[1] = 1001),
+        Refused::new(7, "the range", |c| c.settings[2] = 0),
     ];
     combined(&mut l, &good, &conditions(settings), |call, number, l| answered(l, call, number));
     sizes(&mut l, &good);

@@ -65,40 +65,26 @@ fn answered(l: &mut List, call: &Reading, number: u32) {
     line(l, &call.fields(), &[number]);
 }
 
+type Refused = Condition<Reading>;
+
 /// Document 01's order: layouts; 5; division settings 7; the opening's kernel 6; grid settings 7; Sauvola settings 7;
 /// either workspace 8.
-fn conditions() -> Vec<Condition<Reading>> {
-    let mut list = layout(
-        SOURCE,
-        [
-            |c: &mut Reading| c.source.empty(),
-            |c| c.source.stride_too_small(),
-            |c| c.source.too_short(),
-            |c| c.source.too_wide(),
-        ],
-    );
-    list.extend(layout(
-        DESTINATION,
-        [
-            |c: &mut Reading| c.destination.empty(),
-            |c| c.destination.stride_too_small(),
-            |c| c.destination.too_short(),
-            |c| c.destination.too_wide(),
-        ],
-    ));
-    list.push(Condition { number: 5, what: "sizes that differ", apply: |c| c.destination = Lent::new(10, 4, 2, 6) });
-    list.push(Condition { number: 7, what: "the element", apply: |c| c.kernels[0] = 2 });
-    list.push(Condition { number: 7, what: "the floor", apply: |c| c.kernels[2] = 0 });
-    list.push(Condition { number: 6, what: "the opening kernel", apply: |c| c.kernels[3] = 2 });
-    list.push(Condition { number: 7, what: "the tile width", apply: |c| c.grid[0] = 0 });
-    list.push(Condition { number: 7, what: "the tile height", apply: |c| c.grid[1] = 0 });
-    list.push(Condition { number: 7, what: "the grid's k", apply: |c| c.k = f64::NAN });
-    list.push(Condition { number: 7, what: "the grid's range", apply: |c| c.range = 0.0 });
-    list.push(Condition { number: 7, what: "the radius", apply: |c| c.sauvola[0] = 0 });
-    list.push(Condition { number: 7, what: "k", apply: |c| c.sauvola[1] = 1001 });
-    list.push(Condition { number: 7, what: "the range", apply: |c| c.sauvola[2] = 0 });
-    list.push(Condition { number: 8, what: "the bytes", apply: |c| c.bytes -= 1 });
-    list.push(Condition { number: 8, what: "the words", apply: |c| c.words -= 1 });
+fn conditions() -> Vec<Refused> {
+    let mut list = layout(SOURCE, |c: &mut Reading| &mut c.source);
+    list.extend(layout(DESTINATION, |c: &mut Reading| &mut c.destination));
+    list.push(Refused::new(5, "sizes that differ", |c| c.destination = Lent::new(10, 4, 2, 6)));
+    list.push(Refused::new(7, "the element", |c| c.kernels[0] = 2));
+    list.push(Refused::new(7, "the floor", |c| c.kernels[2] = 0));
+    list.push(Refused::new(6, "the opening kernel", |c| c.kernels[3] = 2));
+    list.push(Refused::new(7, "the tile width", |c| c.grid[0] = 0));
+    list.push(Refused::new(7, "the tile height", |c| c.grid[1] = 0));
+    list.push(Refused::new(7, "the grid's k", |c| c.k = f64::NAN));
+    list.push(Refused::new(7, "the grid's range", |c| c.range = 0.0));
+    list.push(Refused::new(7, "the radius", |c| c.sauvola[0] = 0));
+    list.push(Refused::new(7, "k", |c| c.sauvola[1] = 1001));
+    list.push(Refused::new(7, "the range", |c| c.sauvola[2] = 0));
+    list.push(Refused::new(8, "the bytes", |c| c.bytes -= 1));
+    list.push(Refused::new(8, "the words", |c| c.words -= 1));
     list
 }
 
