@@ -31,16 +31,10 @@ use Rattle.imgproc.specs.Sauvola.{thresholdAt, atOrBelow}
 use Rattle.imgproc.specs.Reading.{openedOf, judgedOver, judged, comparisonsOf, readingOf, byteOf, marked, readingSettings, readingRoom, readingCheck, readBy, Reads}
 use Rattle.imgproc.specs.ReadingLaws.{adds-up, comparisons-below, same-pixels}
 
-not-light : {A : Type 0} → Light ≡ Dark → A
-not-light p = let z : _≡_ {A = ℕ} 0 1 = cc in absurd (omega arith)
-
-not-skipped : {A : Type 0} → Skipped ≡ Dark → A
-not-skipped p = let z : _≡_ {A = ℕ} 0 1 = cc in absurd (omega arith)
-
 chosen : (a b : Bool) → cond a Skipped (cond b Dark Light) ≡ Dark → (a ≡ false) × (b ≡ true)
-chosen true b p = not-skipped p
+chosen true b p = let z : _≡_ {A = ℕ} 0 1 = cc in absurd (omega arith)
 chosen false true p = (refl, refl)
-chosen false false p = not-light p
+chosen false false p = let z : _≡_ {A = ℕ} 0 1 = cc in absurd (omega arith)
 
 -- a pixel is judged dark exactly when its tile is not skipped and its flattened, opened value is at most the directly summed threshold
 pub dark-exactly :
