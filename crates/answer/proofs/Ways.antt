@@ -19,7 +19,7 @@ use Rattle.pgm.specs.declared.Parsed.the-variants.{Picture, Malformed}
 use Rattle.pgm.specs.Form.{header, Form, Answers}
 use Rattle.pgm.specs.FormLaws.{same-header}
 use Rattle.pgm.specs.Line.{refusedLine, Writes}
-use Rattle.answer.specs.Answer.{settings, tight, answerOf, AnswersPicture, AnswersMalformed, AnswersInput}
+use Rattle.answer.specs.Answer.{settings, lentTo, answerOf, AnswersPicture, AnswersMalformed, AnswersInput}
 
 -- the settings of three parts, with m = 3
 abbrev pub joined : BackgroundDivideConfig → TileThresholdConfig → SauvolaConfig → ReadingConfig
@@ -39,10 +39,10 @@ refused-of out {k = k} out′ e x = subst (λ (n : ℕ). Writes (refusedLine n) 
 
 module _ (w h : ℕ) (pixels dst bytes words out : List ℕ) {n : ℕ} (dst′ bytes′ words′ out′ : List ℕ) where
   -- a picture that was read with the settings, and the line of what was read
-  pub answered : {s : ReadingConfig} {read : Read} → s ≡ settings → Reads pixels (tight w h) dst (tight w h) s bytes words read dst′ bytes′ words′ → Writes (answerOf w h read) out n out′ →
+  pub answered : {s : ReadingConfig} {read : Read} → s ≡ settings → Reads (lentTo w h pixels dst bytes words s) read (record { dst = dst′; bytes = bytes′; words = words′ }) → Writes (answerOf w h read) out n out′ →
       AnswersPicture w h pixels dst bytes words out n dst′ bytes′ words′ out′
   answered {read = read} e r x =
-      let q : Reads pixels (tight w h) dst (tight w h) settings bytes words read dst′ bytes′ words′ = subst (λ (s : ReadingConfig). Reads pixels (tight w h) dst (tight w h) s bytes words read dst′ bytes′ words′) e r in
+      let q : Reads (lentTo w h pixels dst bytes words settings) read (record { dst = dst′; bytes = bytes′; words = words′ }) = subst (λ (s : ReadingConfig). Reads (lentTo w h pixels dst bytes words s) read (record { dst = dst′; bytes = bytes′; words = words′ })) e r in
       record {
         writes = subst (λ (a : Read). Writes (answerOf w h a) out n out′) (q .answers) x;
         reads = record { answers = refl; leaves = q .leaves; bytes-left = q .bytes-left; words-left = q .words-left };

@@ -11,7 +11,7 @@ use Rattle.imgproc.specs.declared.reading.ReadingConfig.{ReadingConfig}
 use Rattle.imgproc.specs.declared.reading.Read.{Read}
 use Rattle.imgproc.specs.declared.reading.Read.the-variants.{Counts, Refused}
 use Rattle.imgproc.specs.Refusals.{errorNumber}
-use Rattle.imgproc.specs.Reading.{readingOf, readingCheck, readBy, Reads}
+use Rattle.imgproc.specs.Reading.{readingOf, readingCheck, readBy, ReadingLent, Reads}
 use Rattle.pgm.specs.Form.{Form}
 use Rattle.pgm.specs.Line.{line, refusedLine, Writes}
 
@@ -37,15 +37,19 @@ tight w h = record { width = w; height = h; stride = w }
 abbrev pub readOf : ℕ → ℕ → List ℕ → ℕ → ℕ → ℕ → Read
 readOf w h pixels dst bytes words = readBy (readingCheck (length pixels) (tight w h) dst (tight w h) settings bytes words) (readingOf settings w h (packed pixels w h w))
 
+-- what a reading of a picture of w by h is lent
+abbrev pub lentTo : ℕ → ℕ → List ℕ → List ℕ → List ℕ → List ℕ → ReadingConfig → ReadingLent
+lentTo w h pixels dst bytes words s = record { src = pixels; source = tight w h; dst = dst; target = tight w h; settings = s; bytes = bytes; words = words }
+
 -- the line of a reading's answer: width, height, dark, light, skipped, comparisons; or the refusal's number
 abbrev pub answerOf : ℕ → ℕ → Read → List ℕ
-answerOf w h (Counts c) = line (w ∷ h ∷ c .dark ∷ c .light ∷ c .skipped ∷ c .comparisons ∷ [])
+answerOf w h (Counts c) = line (w ∷ h ∷ c .dark ∷ c .light ∷ c .skipped ∷ c .tally .comparisons ∷ [])
 answerOf w h (Refused e) = refusedLine (errorNumber e)
 
 -- the answer to a picture: its line is written, and the destination and the workspaces are as the reading leaves them
 pub record AnswersPicture (w h : ℕ) (pixels dst bytes words out : List ℕ) (answer : ℕ) (dst′ bytes′ words′ out′ : List ℕ) : Type 0 where
   pub writes : Writes (answerOf w h (readOf w h pixels (length dst) (length bytes) (length words))) out answer out′
-  pub reads : Reads pixels (tight w h) dst (tight w h) settings bytes words (readOf w h pixels (length dst) (length bytes) (length words)) dst′ bytes′ words′
+  pub reads : Reads (lentTo w h pixels dst bytes words settings) (readOf w h pixels (length dst) (length bytes) (length words)) (record { dst = dst′; bytes = bytes′; words = words′ })
 
 -- the answer to an input that is no picture: refusal 11 is written, and every other buffer is as it was
 pub record AnswersMalformed (dst bytes words out : List ℕ) (answer : ℕ) (dst′ bytes′ words′ out′ : List ℕ) : Type 0 where

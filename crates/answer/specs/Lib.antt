@@ -1,4 +1,5 @@
--- What the contract of `answer` says, a law about it that crates above may cite, and worked answers.
+-- What the contracts of `answer` say, the laws about it that crates above may cite, and worked answers.
 pub mod Answer
-pub mod AnswerLaws
+pub mod Program
+pub mod ProgramLaws
 pub mod Examples

@@ -4,10 +4,12 @@ use image::Geometry;
 use imgproc::illumination::BackgroundDivideConfig;
 use imgproc::reading::Read;
 use imgproc::reading::ReadingConfig;
+use imgproc::tally;
 use imgproc::threshold::SauvolaConfig;
 use pgm::Parsed;
 ghost use mathlib.Core.Path.{_≡_};
 ghost use Rattle.answer.specs.Answer.{settings, answerOf, AnswersPicture, AnswersInput};
+ghost use Rattle.answer.specs.Program.{programLine, AnswersWhole, PrintsRead};
 ghost use Rattle.pgm.specs.Line.{Writes};
 
 // The number of an input that is no picture.
@@ -37,7 +39,7 @@ fn write_read(width: usize, height: usize, read: Read, out: &mut [u8]) -> usize
                 counts.dark,
                 counts.light,
                 counts.skipped,
-                counts.comparisons,
+                tally::comparisons(counts.tally),
                 out,
             )
         }
@@ -82,4 +84,41 @@ pub fn answer(
         return pgm::refused_line(MALFORMED, out);
     };
     answer_picture(&input[at..], width, height, dst, bytes, words, out)
+}
+
+// The lengths of what a program lends: one byte more than the longest picture, so that a byte too many is seen; the largest
+// picture; room for any line.
+pub const INPUT: usize = 3614;
+
+pub const PIXELS: usize = 3600;
+
+pub const LINE: usize = 128;
+
+// Nine planes, and two bytes for each of 16 tiles.
+const BYTES: usize = 32432;
+
+// Two tables of 61 × 61, and five numbers for each of 16 tiles.
+const WORDS: usize = 7522;
+
+// Answers an input of any length with workspaces of its own, and marks its picture in a destination. A buffer of less than
+// pgm::LINE_ROOM bytes is left as it is, and the answer is 0.
+pub fn answer_whole(input: &[u8], dst: &mut [u8; PIXELS], out: &mut [u8]) -> usize
+    ensures { λ r. ⌜ AnswersWhole (now (input .entry)) (now (dst .entry)) (now (out .entry)) r (now (dst .exit)) (now (out .exit)) ⌝ }
+{
+    let mut bytes = [0u8; BYTES];
+    let mut words = [0u64; WORDS];
+    answer(input, dst, &mut bytes, &mut words, out)
+}
+
+// Answers what a program has read of its input: the first n bytes of the buffer are as many of the input's as it holds, or
+// the whole input.
+pub fn answer_read(buffer: &[u8; INPUT], n: usize, line: &mut [u8; LINE]) -> usize
+    ensures { λ r. ⌜ PrintsRead programLine (now (buffer .entry)) n (now (line .entry)) r (now (line .exit)) ⌝ }
+{
+    let mut dst = [0u8; PIXELS];
+    let all: &[u8] = buffer;
+    if INPUT < n {
+        return answer_whole(all, &mut dst, line);
+    }
+    answer_whole(&all[..n], &mut dst, line)
 }

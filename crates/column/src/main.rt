@@ -1,84 +1,85 @@
 // Reads a picture as the program `reading` does, writes the same line, and draws under it the rows of the destination: '#'
 // for each pixel that is judged dark, '.' for every other. Of an input that is refused nothing is drawn.
-use image::Geometry;
 use libc::STDIN_FILENO;
 use libc::STDOUT_FILENO;
 use pgm::Parsed;
+ghost use Prim.Native.Nat.{_+_, _*_, _≤_, _<_};
+ghost use mathlib.Core.Path.{_≡_};
+ghost use lib.ListN.{length};
+ghost use Rattle.image.specs.Plane.{pixel};
+ghost use Rattle.answer.specs.Program.{Prints, PrintsRead};
+ghost use Rattle.column.specs.Drawing.{inkOf, rowByte, programDrawing, Room, DrawsRows};
 
-// The lengths of the slices, as the program `reading` has them.
-const INPUT: usize = 3614;
-
-const PIXELS: usize = 3600;
-
-const BYTES: usize = 32432;
-
-const WORDS: usize = 7522;
-
-const LINE: usize = 128;
+// Room for any line, and for 60 rows of 60 marks and a line feed.
+const DRAWING: usize = 3788;
 
 // The dark value of the settings that a program answers with is 0.
-fn mark(value: u8) -> u8 {
+fn ink(value: u8) -> u8
+    ensures { λ r. ⌜ r ≡ inkOf value ⌝ }
+{
     if value == 0 {
         return b'#';
     }
     b'.'
 }
 
-fn mark_all(pixels: &mut [u8]) {
+fn row_byte(pixels: &[u8], width: usize, x: usize, y: usize) -> u8
+    requires { ⌜ ((x ≡ width → ⊥) → y * width + x < length (now pixels)) ⌝ }
+    ensures { λ r. ⌜ r ≡ rowByte (λ x y. inkOf (pixel (now (pixels .entry)) width x y)) width x y ⌝ }
+{
+    if x == width {
+        return b'\n';
+    }
+    ink(pixels[y * width + x])
+}
+
+fn draw_rows(pixels: &[u8], width: usize, height: usize, out: &mut [u8], at: usize) -> usize
+    requires { ⌜ Room (now pixels) width height (now out) at ⌝ }
+    ensures { λ r. ⌜ DrawsRows (now (pixels .entry)) width height (now (out .entry)) at r (now (out .exit)) ⌝ }
+{
+    let wide = width + 1;
+    let total = wide * height;
     let mut i = 0;
-    while i < pixels.len() {
-        pixels[i] = mark(pixels[i]);
+    while i < total {
+        out[at + i] = row_byte(pixels, width, i % wide, i / wide);
         i += 1;
     }
+    at + total
 }
 
-fn write_row(marks: &[u8], geometry: Geometry, y: usize) {
-    io::write_all(STDOUT_FILENO, image::row(marks, geometry, y));
-    io::write_all(STDOUT_FILENO, b"\n");
-}
-
-fn write_rows(marks: &[u8], geometry: Geometry) {
-    let mut y = 0;
-    while y < geometry.height {
-        write_row(marks, geometry, y);
-        y += 1;
-    }
-}
-
-// The rows of the picture that an input is; none where it is no picture, or an empty one.
-fn draw(input: &[u8], pixels: &mut [u8]) {
+// What the program writes for an input of any length.
+fn draw_whole(input: &[u8], out: &mut [u8]) -> usize
+    requires { ⌜ 3788 ≤ length (now out) ⌝ }
+    ensures { λ r. ⌜ Prints (programDrawing (now (input .entry))) (now (out .entry)) r (now (out .exit)) ⌝ }
+{
+    let mut dst = [0u8; answer::PIXELS];
+    let length = answer::answer_whole(input, &mut dst, &mut out[..answer::LINE]);
     let Parsed::Picture(width, height, _) = pgm::parse(input) else {
-        return;
+        return length;
     };
     if width == 0 {
-        return;
+        return length;
     }
-    mark_all(pixels);
-    write_rows(
-        pixels,
-        Geometry {
-            width: width,
-            height: height,
-            stride: width,
-        },
-    );
+    if height == 0 {
+        return length;
+    }
+    draw_rows(&dst, width, height, out, length)
 }
 
-fn write_line(line: &[u8], length: usize) {
-    if length > line.len() {
-        return;
+fn draw_read(buffer: &[u8; answer::INPUT], n: usize, out: &mut [u8; DRAWING]) -> usize
+    ensures { λ r. ⌜ PrintsRead programDrawing (now (buffer .entry)) n (now (out .entry)) r (now (out .exit)) ⌝ }
+{
+    let all: &[u8] = buffer;
+    if answer::INPUT < n {
+        return draw_whole(all, out);
     }
-    io::write_all(STDOUT_FILENO, &line[0..length]);
+    draw_whole(&all[..n], out)
 }
 
 fn main() {
-    let mut input = [0u8; INPUT];
-    let mut dst = [0u8; PIXELS];
-    let mut bytes = [0u8; BYTES];
-    let mut words = [0u64; WORDS];
-    let mut line = [0u8; LINE];
+    let mut input = [0u8; answer::INPUT];
+    let mut out = [0u8; DRAWING];
     let n = io::read_full(STDIN_FILENO, &mut input);
-    let length = answer::answer(&input[..n], &mut dst, &mut bytes, &mut words, &mut line);
-    write_line(&line, length);
-    draw(&input[..n], &mut dst);
+    let length = draw_read(&input, n, &mut out);
+    io::write_all(STDOUT_FILENO, &out[..length]);
 }

@@ -5,5 +5,7 @@ pub mod Line
 pub mod Steps
 pub mod DecimalLaws
 pub mod FormLaws
+pub mod Parse
+pub mod ParseLaws
 pub mod LineLaws
 pub mod Examples

@@ -8,6 +8,9 @@ use Rattle.answer.proofs.write_read.Tie as tie
 enum-known-read : tie.Need-enum-known-read
 enum-known-read c = search needs
 
+comparisons-requires : tie.Need-comparisons-requires
+comparisons-requires c κs = search needs
+
 counts-line-requires : tie.Need-counts-line-requires
 counts-line-requires c κs = search needs
 
@@ -26,9 +29,10 @@ same-length c = search needs
 returns : tie.Need-returns
 returns c =
     let call = c .before .before in
-    let match = call .before .before .before in
+    let number = call .before .before in
+    let match = number .before .before in
     let a = match .before .before .before .args in
-    line-of (a .width) (a .height) (now (a .out)) _ (match .read .given .1) (call .counts-line .ensures)
+    line-of (a .width) (a .height) (now (a .out)) _ (match .read .given .1) (rw (number .comparisons .ensures) at (call .counts-line .ensures))
 
 same-length-2 : tie.Need-same-length-2
 same-length-2 c = search needs
@@ -46,6 +50,7 @@ write-read-spec =
     tie.close
     (tie.spec
     enum-known-read
+    comparisons-requires
     counts-line-requires
     enum-known-read-2
     number-requires

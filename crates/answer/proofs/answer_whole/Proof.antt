@@ -1,0 +1,28 @@
+-- The lengths of the workspaces are enough. Assumes nothing.
+use borrow.Author.Needs.{needs}
+use native.Mathlib.Omega.{arith}
+use denote.Ref.{now}
+use Rattle.answer.proofs.Whole.{whole}
+use Rattle.answer.proofs.answer_whole.Statement.{statement}
+use Rattle.answer.proofs.answer_whole.Tie as tie
+
+slice-aggregate-answer : tie.Need-slice-aggregate-answer
+slice-aggregate-answer c = search needs
+
+slice-aggregate-answer-2 : tie.Need-slice-aggregate-answer-2
+slice-aggregate-answer-2 c = search needs
+
+answer-requires : tie.Need-answer-requires
+answer-requires c κs = search needs
+
+same-length : tie.Need-same-length
+same-length c = search needs
+
+returns : tie.Need-returns
+returns c =
+    let call = c .before .before .before .before in
+    whole _ _ _ _ _ _ _ _ _ (omega arith) (omega arith) (omega arith) (call .answer .ensures)
+
+pub answer-whole-spec : {M : Type 1} → statement M
+answer-whole-spec =
+    tie.close (tie.spec slice-aggregate-answer slice-aggregate-answer-2 answer-requires same-length returns)

@@ -1,0 +1,132 @@
+-- What is parsed is the form, for the one pair of sides that an input has; and the bytes that the longest picture has, and one more,
+-- tell of any input whether it is a picture. Assumes nothing.
+use Prim.Native.Nat.{ℕ, zero, suc, _+_, _*_, _/_, _%_, _≤_, _<_}
+use native.Mathlib.Nat.{mul-le-mul}
+use native.Mathlib.Omega.{arith}
+use mathlib.Core.Path.{_≡_, refl, sym, ap, _∙_}
+use mathlib.Core.Bool.{Bool, true, false, cond, _&&_}
+use mathlib.Core.Logic.{_⊎_, inl, inr}
+use mathlib.Core.List.{List, [], _∷_, _++_}
+use lib.Dec.{eqb, ltb}
+use lib.ListN.{length, take, drop, length-append, length-drop}
+use lib.Seq.{take-all, length-take-le}
+use borrow.Author.Tests.{eqb-true, eqb-false, eq-eqb, ltb-true, ltb-false}
+use Rattle.pgm.specs.declared.Parsed.{Parsed}
+use Rattle.pgm.specs.declared.Parsed.the-variants.{Picture, Malformed}
+use Rattle.pgm.specs.DecimalLaws.{decimal-short}
+use Rattle.pgm.specs.Form.{header, Form, Answers}
+use Rattle.pgm.specs.FormLaws.{same-header}
+use Rattle.pgm.specs.Parse.{begins, formed, sought, parsedOf, longest}
+
+-- of two tests both hold
+both : (a b : Bool) → (a && b) ≡ true → (a ≡ true) × (b ≡ true)
+both true b e = (refl, e)
+both false b e = let z : _≡_ {A = ℕ} 0 1 = cc in absurd (omega arith)
+
+-- ---- the form as a test
+
+begins-true : (text bytes : List ℕ) → begins text bytes ≡ true → bytes ≡ text ++ drop (length text) bytes
+begins-true [] bytes e = refl
+begins-true (x ∷ text) [] e = let z : _≡_ {A = ℕ} 0 1 = cc in absurd (omega arith)
+begins-true (x ∷ text) (b ∷ bytes) e =
+    let p = both (eqb b x) (begins text bytes) e in
+    let q = eqb-true b x (p .0) in
+    let r = begins-true text bytes (p .1) in
+    ap (λ (y : ℕ). y ∷ bytes) q ∙ ap (λ (l : List ℕ). x ∷ l) r
+
+begins-append : (text rest : List ℕ) → begins text (text ++ rest) ≡ true
+begins-append [] rest = refl
+begins-append (x ∷ text) rest = rw (eq-eqb x x refl, begins-append text rest)
+
+formed-form : (input : List ℕ) (w h : ℕ) → w ≤ 60 → h ≤ 60 → formed input w h ≡ true → Form input w h
+formed-form input w h ww hh e =
+    let p = both (eqb (length input) (length (header w h) + w * h)) (begins (header w h) input) e in
+    let l = eqb-true (length input) (length (header w h) + w * h) (p .0) in
+    record {
+      wide = ww;
+      high = hh;
+      pixels = drop (length (header w h)) input;
+      counted = omega (arith, length-drop (length (header w h)) input);
+      whole = begins-true (header w h) input (p .1);
+    }
+
+form-formed : (input : List ℕ) (w h : ℕ) → Form input w h → formed input w h ≡ true
+form-formed input w h f =
+    let l : length input ≡ length (header w h) + w * h = ap length (f .whole) ∙ length-append (header w h) (f .pixels) ∙ ap (λ (k : ℕ). length (header w h) + k) (f .counted) in
+    let b : begins (header w h) input ≡ true = ap (begins (header w h)) (f .whole) ∙ begins-append (header w h) (f .pixels) in
+    rw (eq-eqb (length input) (length (header w h) + w * h) l, b)
+
+-- ---- what is sought is found
+
+-- what is known after n pairs
+abbrev Found : List ℕ → ℕ → Parsed → Type 0
+Found input n (Picture w h at) = Form input w h × (at ≡ length (header w h))
+Found input n Malformed = (k : ℕ) → k < n → formed input (k / 61) (k % 61) ≡ false
+
+found-more : (input : List ℕ) (n : ℕ) (b : Bool) (r : Parsed) → n < 3721 → formed input (n / 61) (n % 61) ≡ b → Found input n r →
+    Found input (suc n) (cond b (Picture (n / 61) (n % 61) (length (header (n / 61) (n % 61)))) r)
+found-more input n true r l e k = (formed-form input (n / 61) (n % 61) (omega arith) (omega arith) e, refl)
+found-more input n false (Picture w h at) l e k = k
+found-more input n false Malformed l e k = λ i p. either i p (eqb i n) refl
+  where
+    either : (i : ℕ) → i < suc n → (b : Bool) → eqb i n ≡ b → formed input (i / 61) (i % 61) ≡ false
+    either i p true q = ap (λ (j : ℕ). formed input (j / 61) (j % 61)) (eqb-true i n q) ∙ e
+    either i p false q = k i (let d : i ≡ n → ⊥ = eqb-false i n q in omega arith)
+
+found : (input : List ℕ) (n : ℕ) → n ≤ 3721 → Found input n (sought input n)
+unfolding sought
+found input zero l = λ i p. absurd (omega arith)
+found input (suc n) l = found-more input n (formed input (n / 61) (n % 61)) (sought input n) (omega arith) refl (found input n (omega arith))
+
+answers-found : (input : List ℕ) (r : Parsed) → Found input 3721 r → Answers input r
+answers-found input (Picture w h at) k = k
+answers-found input Malformed k = λ w h f.
+    let i : (w * 61 + h) / 61 ≡ w = omega (arith, f .wide, f .high) in
+    let j : (w * 61 + h) % 61 ≡ h = omega (arith, f .wide, f .high) in
+    let no = k (w * 61 + h) (omega (arith, f .wide, f .high)) in
+    let yes : formed input ((w * 61 + h) / 61) ((w * 61 + h) % 61) ≡ true = ap (λ (n : ℕ). formed input n ((w * 61 + h) % 61)) i ∙ ap (λ (n : ℕ). formed input w n) j ∙ form-formed input w h f in
+    let z : _≡_ {A = ℕ} 0 1 = cc (yes, no) in
+    omega arith
+
+-- the parse of any input meets what pgm's `parse` promises, and nothing else does
+pub parsed-answers : (input : List ℕ) → Answers input (parsedOf input)
+unfolding parsedOf
+parsed-answers input = answers-found input (sought input 3721) (found input 3721 (omega arith))
+
+pub parsed-once : (input : List ℕ) (r s : Parsed) → Answers input r → Answers input s → r ≡ s
+parsed-once input (Picture w h at) (Picture v g to) p q =
+    let f = p .0 in
+    let k = q .0 in
+    let s = same-header w h v g (f .pixels) (k .pixels) (f .wide) (f .high) (k .wide) (k .high) (sym (f .whole) ∙ k .whole) in
+    let a : w ≡ v = s .0 in
+    let b : h ≡ g = s .1 .0 in
+    let l : length (header w h) ≡ length (header v g) = rw (a, b) in
+    let t : at ≡ to = p .1 ∙ l ∙ sym (q .1) in
+    cc
+parsed-once input (Picture w h at) Malformed p q = absurd (q w h (p .0))
+parsed-once input Malformed (Picture v g to) p q = absurd (p v g (q .0))
+parsed-once input Malformed Malformed p q = refl
+
+-- ---- the first bytes are enough
+
+header-short : (w h : ℕ) → w ≤ 60 → h ≤ 60 → length (header w h) ≤ 13
+header-short w h ww hh = simp length-append (omega (arith, decimal-short w 1 (omega arith), decimal-short h 1 (omega arith)))
+
+-- no picture is longer than the longest
+pub form-short : (input : List ℕ) (w h : ℕ) → Form input w h → length input ≤ longest
+form-short input w h f =
+    let l = ap length (f .whole) ∙ length-append (header w h) (f .pixels) in
+    let c = f .counted in
+    let a : w * h ≤ 3600 = mul-le-mul (f .wide) (f .high) in
+    omega (arith, header-short w h (f .wide) (f .high))
+
+module _ (whole : List ℕ) (m : ℕ) (enough : longest < m) where
+  -- all of the input, or none of both is a picture
+  pub cut : (take m whole ≡ whole) ⊎ (((w h : ℕ) → Form whole w h → ⊥) × ((w h : ℕ) → Form (take m whole) w h → ⊥))
+  cut = go (ltb m (length whole)) refl
+    where
+      go : (b : Bool) → ltb m (length whole) ≡ b → (take m whole ≡ whole) ⊎ (((w h : ℕ) → Form whole w h → ⊥) × ((w h : ℕ) → Form (take m whole) w h → ⊥))
+      go false e = inl (take-all m whole (ltb-false m (length whole) e))
+      go true e =
+          let l = ltb-true m (length whole) e in
+          inr ((λ w h f. omega (arith, form-short whole w h f)), (λ w h f. omega (arith, form-short (take m whole) w h f, length-take-le m whole (omega arith))))
