@@ -4,6 +4,7 @@ use mathlib.Core.Bool.{cond, _&&_}
 use mathlib.Core.List.{List, [], _∷_, _++_}
 use lib.Dec.{ltb}
 use lib.ListN.{length, getD, take, drop}
+use Rattle.image.specs.declared.Geometry.{Geometry}
 
 -- pixel (x, y): the number at y × stride + x. The stride of a packed picture is its width
 abbrev pub pixel : List ℕ → ℕ → ℕ → ℕ → ℕ
@@ -28,6 +29,10 @@ plane w h f = tabulate (λ i. f (i % w) (i / w)) (w * h)
 unfoldable pub packed : List ℕ → ℕ → ℕ → ℕ → List ℕ
 unfolding plane
 packed d w h stride = plane w h (pixel d stride)
+
+-- the picture of a geometry in a slice, packed
+abbrev pub picture : List ℕ → Geometry → List ℕ
+picture d g = packed d (g .width) (g .height) (g .stride)
 
 -- the n numbers from `at` on
 abbrev pub part : ℕ → ℕ → List ℕ → List ℕ

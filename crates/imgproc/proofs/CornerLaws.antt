@@ -7,6 +7,7 @@ use mathlib.Core.List.{List}
 use lib.ListN.{length, getD}
 use Rattle.image.specs.declared.Geometry.{Geometry}
 use Rattle.image.specs.Layout.{sideLimit}
+use Rattle.image.specs.Plane.{picture}
 use Rattle.imgproc.specs.declared.threshold.SauvolaConfig.{SauvolaConfig}
 use Rattle.imgproc.specs.Fold.{Box, foldBox}
 use Rattle.imgproc.specs.Reach.{low, high}
@@ -14,7 +15,7 @@ use Rattle.imgproc.specs.Sums.{squared, sum, sumSquares, count, boxSum, 
 use Rattle.imgproc.specs.SumLaws.{corners, fold-box-sum, count-is, box-le, mean-square}
 use Rattle.imgproc.specs.Sauvola.{window, threshold, thresholdAt}
 use Rattle.imgproc.specs.SauvolaLaws.{window-some}
-use Rattle.imgproc.specs.Tables.{picture, pixelsOf, Holds, Ready, entryAt, Corners, cornerSum, Sane}
+use Rattle.imgproc.specs.Tables.{pixelsOf, Holds, Ready, entryAt, Corners, cornerSum, Sane}
 use Rattle.imgproc.proofs.TableLaws.{entry, box-small, pixel-byte}
 
 -- a rectangle from x0 to x1 and from y0 to y1, the ends left out

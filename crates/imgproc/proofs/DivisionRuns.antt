@@ -18,8 +18,8 @@ use Rattle.imgproc.specs.declared.morphology.Compared.the-variants.{Comp
 use Rattle.imgproc.specs.declared.tally.Tally.{Tally}
 use Rattle.imgproc.specs.Morphology.{closed}
 use Rattle.imgproc.specs.Sweeps.{TwiceReady, TwiceMorphed}
-use Rattle.imgproc.specs.Refusals.{divisionSettings, divisionCheck}
-use Rattle.imgproc.specs.Division.{quotient, dividedBy, divided, FlattenReady, Flattened, DivideReady, Divided, Divides}
+use Rattle.imgproc.specs.Refusals.{divisionSettings}
+use Rattle.imgproc.specs.Division.{quotient, dividedBy, divided, FlattenReady, Flattened, DivideReady, Divided}
 use Rattle.image.specs.LayoutLaws.{area-small}
 use Rattle.imgproc.proofs.Copies.{packs-plane, unpacks-done}
 use Rattle.imgproc.proofs.MorphologyRuns.{twice-ready}
@@ -73,8 +73,8 @@ module _ (src : List ℕ) (s : Geometry) (dst : List ℕ) (t : Geometry) (d : Ba
       let area = area-small (ready .from) in
       record { from = ready .from; kernel = ready .kernel; floor = ready .floor; fits = ready .fits; room = omega arith }
 
-  module _ (raised : Tally) (ws′ : List ℕ) (flat : Flattened tally src s d ws raised ws′) (n : ℕ) (read : n ≡ raised .comparisons) where
-    pub picture-divided : {r : Copied} {dst′ : List ℕ} → Unpacks ws′ (s .width * s .height) dst t r dst′ → Divided src s dst t d ws n dst′ ws′
+  module _ (raised : Tally) (ws′ : List ℕ) (flat : Flattened tally src s d ws raised ws′) where
+    pub picture-divided : {r : Copied} {dst′ : List ℕ} → Unpacks ws′ (s .width * s .height) dst t r dst′ → Divided src s dst t d ws raised dst′ ws′
     picture-divided {r} {dst′} unpack =
         let area : t .width * t .height ≡ s .width * s .height = ap₂ (λ (a b : ℕ). a * b) (sym (ready .wide)) (sym (ready .high)) in
         let left = unpacks-done (ready .to) (omega (arith, flat .long, ready .fits)) unpack in
@@ -82,7 +82,7 @@ module _ (src : List ℕ) (s : Geometry) (dst : List ℕ) (t : Geometry) (d : Ba
         left ∙ rw (ready .wide, ready .high) in
         record {
           leaves = p ∙ ap (λ (q : List ℕ). painted q (s .width) (s .height) (t .stride) dst) (flat .leaves);
-          counted = omega (arith, read, flat .counted, fresh);
+          counted = omega (arith, flat .counted, fresh);
           long = flat .long;
         }
 
@@ -99,17 +99,3 @@ module _ (d : BackgroundDivideConfig) where
 
   pub settings-good : 3 ≤ d .«structuring_element» → (d .«structuring_element» % 2 ≡ 0 → ⊥) → (d .«denominator_floor» ≡ 0 → ⊥) → Accepted ≡ divisionSettings d
   settings-good l o x = simp (le-ltb (d .«structuring_element») 3 l, ne-eqb (d .«structuring_element» % 2) 0 o, ne-eqb (d .«denominator_floor») 0 x)
-
--- ---- the contract
-module _ (src : List ℕ) (s : Geometry) (dst : List ℕ) (t : Geometry) (d : BackgroundDivideConfig) (ws : List ℕ) where
-  -- of a refused call
-  pub refused : (e : ImgProcError) → divisionCheck (length src) s (length dst) t d (length ws) ≡ Refused e → Divides src s dst t d ws (Compared·Refused e) dst ws
-  refused e c = record { answers = rw c; leaves = rw c; workspace = rw c refl }
-
-  -- of an accepted one
-  pub done : (n : ℕ) (dst′ ws′ : List ℕ) {g h : Geometry} → g ≡ s → h ≡ t → divisionCheck (length src) s (length dst) t d (length ws) ≡ Accepted → Divided src g dst h d ws n dst′ ws′
-      → Divides src s dst t d ws (Comparisons n) dst′ ws′
-  done n dst′ ws′ {g} {h} p q c r =
-      let r′ : Divided src s dst t d ws n dst′ ws′ =
-      subst (λ (u : Geometry). Divided src u dst t d ws n dst′ ws′) p (subst (λ (u : Geometry). Divided src g dst u d ws n dst′ ws′) q r) in
-      record { answers = rw c (ap Comparisons (r′ .counted)); leaves = rw c (r′ .leaves); workspace = rw c (r′ .long) }

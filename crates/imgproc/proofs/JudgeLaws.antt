@@ -11,7 +11,7 @@ use lib.Seq.{getD-set-same, getD-set-other}
 use borrow.Author.Count.{below-more}
 use borrow.Author.Tests.{le-leb, lt-leb}
 use Rattle.image.specs.declared.Geometry.{Geometry}
-use Rattle.image.specs.Plane.{packed, pixel}
+use Rattle.image.specs.Plane.{packed, pixel, picture}
 use Rattle.image.specs.PlaneLaws.{length-tabulate, getD-tabulate, in-plane, packed-again, pixel-plane}
 use Rattle.imgproc.specs.declared.reading.ReadingConfig.{ReadingConfig}
 use Rattle.imgproc.specs.declared.judging.Judged.{Judged}
@@ -20,7 +20,6 @@ use Rattle.imgproc.specs.declared.judging.Judgement.the-variants.{Dark, 
 use Rattle.imgproc.specs.Fold.{bit}
 use Rattle.imgproc.specs.Reach.{ceiling, walk}
 use Rattle.imgproc.specs.Grid.{tilesX, tilesY, skipOf, skips}
-use Rattle.imgproc.specs.Tables.{picture}
 use Rattle.imgproc.specs.Sauvola.{thresholdAt, atOrBelow}
 use Rattle.imgproc.specs.Walks.{walk-more, walk-le}
 use Rattle.imgproc.specs.Reading.{isDark, isLight, isSkipped, byteOf, judgedOver, pixels}

@@ -1,6 +1,6 @@
 -- Laws that the proofs of several functions cite.
-pub mod CheckLaws
-pub mod Layouts
+pub mod WaysOut
+pub mod Serving
 pub mod Copies
 pub mod Blocks
 pub mod Lanes

@@ -53,9 +53,9 @@ module _ (operation : Operation) (src : List ℕ) (s : Geometry) (dst : List ℕ
         room = omega arith;
       }
 
-  module _ (n : ℕ) (second : List ℕ) (counts : Counts operation first k (s .width) (s .height) n second) (r′ : Copied) (dst′ : List ℕ)
+  module _ (raised : Tally) (second : List ℕ) (counts : Counts operation first k (s .width) (s .height) raised second) (r′ : Copied) (dst′ : List ℕ)
       (unpack : Unpacks second (s .width * s .height) dst t r′ dst′) where
-    pub run-runs : Runs operation src s dst t k ws n dst′ second
+    pub run-runs : Runs operation src s dst t k ws raised dst′ second
     run-runs =
         let long = plane .0 in
         let area : t .width * t .height ≡ s .width * s .height = ap₂ (λ (a b : ℕ). a * b) (sym (ready .wide)) (sym (ready .high)) in

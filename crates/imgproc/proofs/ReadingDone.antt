@@ -34,7 +34,7 @@ packed-kept {len} {g} k =
 
 -- the four counts, one by one
 abbrev pub counts-of : ℕ → ℕ → ℕ → ℕ → ReadingCounts
-counts-of a b c d = record { dark = a; light = b; skipped = c; comparisons = d }
+counts-of a b c d = record { dark = a; light = b; skipped = c; tally = record { comparisons = d } }
 
 module _ (src : List ℕ) (g : Geometry) (dst : List ℕ) (t : Geometry) (s : ReadingConfig) (bytes words : List ℕ) (ready : ReadReady src g dst t s bytes words) (tally : Tally) (fresh : tally .comparisons ≡ 0) where
   pub open-stage : OpenReady tally src g s bytes
@@ -96,16 +96,15 @@ module _ (src : List ℕ) (g : Geometry) (dst : List ℕ) (t : Geometry) (s : Re
       comparisons-are = omega (arith, o .counted, fresh, sweep-walks (s .division .«structuring_element») (ready .element) (g .width) (g .height), sweep-walks (s .«opening_kernel») (ready .kernel) (g .width) (g .height))
 
       pub read-done :
-          {j : Judged} {dst′ words₃ : List ℕ} (c : ℕ)
-          → c ≡ raised .comparisons
+          {j : Judged} {dst′ words₃ : List ℕ}
           → PictureJudged s (packedAs g) (part 0 (g .width * g .height) bytes₂) dst (t .stride) j dst′
           → length words₃ ≡ length words₂
-          → ReadDone src g dst t s bytes words (counts-of (j .dark) (j .light) (j .skipped) c) dst′ bytes₂ words₃
+          → ReadDone src g dst t s bytes words (counts-of (j .dark) (j .light) (j .skipped) (raised .comparisons)) dst′ bytes₂ words₃
       unfolding source readingOf
-      read-done {j} c q p l = record {
+      read-done {j} p l = record {
         counted =
-            ap₂ (λ (a b : ℕ). counts-of a b (j .skipped) c) (p .dark ∙ count-is isDark) (p .light ∙ count-is isLight)
-            ∙ ap₂ (counts-of _ _) (p .skipped ∙ count-is isSkipped) (q ∙ comparisons-are);
+            ap₂ (λ (a b : ℕ). counts-of a b (j .skipped) (raised .comparisons)) (p .dark ∙ count-is isDark) (p .light ∙ count-is isLight)
+            ∙ ap₂ (counts-of _ _) (p .skipped ∙ count-is isSkipped) comparisons-are;
         leaves = p .leaves ∙ ap (λ (z : List ℕ). painted z (g .width) (g .height) (t .stride) dst) marked-is;
         bytes-long = m .bytes-long ∙ o .long;
         words-long = l ∙ m .words-long;

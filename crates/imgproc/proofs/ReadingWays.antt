@@ -1,5 +1,5 @@
 -- What accepted settings and room of a reading say, and its contract by the way out. Assumes nothing.
-use mathlib.Core.Path.{_≡_, refl, ap, subst}
+use mathlib.Core.Path.{_≡_, refl, ap}
 use mathlib.Core.Bool.{_||_}
 use mathlib.Core.List.{List}
 use Prim.Native.Nat.{ℕ, _+_, _*_, _≤_, _<_}
@@ -21,9 +21,10 @@ use Rattle.imgproc.specs.GridCalls.{gridSettingsCheck, tileCount}
 use Rattle.imgproc.specs.GridLaws.{ceiling-small}
 use Rattle.imgproc.specs.Tables.{InRange}
 use Rattle.imgproc.specs.Tiles.{Sized}
-use Rattle.imgproc.specs.Reading.{readingSettings, readingRoom, readingCheck, Reads}
+use Rattle.imgproc.specs.Reading.{readingSettings, readingRoom, ReadingLent, ReadingLeft, Reads}
 use Rattle.imgproc.specs.ReadingSteps.{ReadDone}
 use Rattle.imgproc.specs.RefusalLaws.{both-accepted, not-refused, kernel-says, division-says}
+use Rattle.imgproc.proofs.WaysOut.{Comes, Pair, source-same, target-same, past}
 use Rattle.imgproc.proofs.Answers.{in-range}
 use Rattle.imgproc.proofs.grid.Ways.{sides-taken}
 
@@ -96,20 +97,20 @@ room-says g s bytes words p =
     )
 
 -- ---- the contract
-module _ (src : List ℕ) (g : Geometry) (dst : List ℕ) (t : Geometry) (s : ReadingConfig) (bytes words : List ℕ) where
+module _ {lent : ReadingLent} where
   -- of a refused call
-  pub refused : (e : ImgProcError) → readingCheck (length src) g (length dst) t s (length bytes) (length words) ≡ Refused e → Reads src g dst t s bytes words (Read·Refused e) dst bytes words
-  refused e c = record { answers = rw c; leaves = rw c; bytes-left = rw c refl; words-left = rw c refl }
+  pub refused : {e : ImgProcError} → Comes (length (lent .src)) (lent .source) (length (lent .dst)) (lent .target) (λ g. readingSettings (lent .settings) then readingRoom g (lent .settings) (length (lent .bytes)) (length (lent .words))) (Refused e)
+      → Reads lent (Read·Refused e) (record { dst = lent .dst; bytes = lent .bytes; words = lent .words })
+  refused c = record { answers = rw (c .is); leaves = rw (c .is); bytes-left = rw (c .is) refl; words-left = rw (c .is) refl }
 
   -- of an accepted one
   pub done :
-      {r : ReadingCounts} {dst′ bytes′ words′ : List ℕ} {u v : Geometry}
-      → u ≡ g
-      → v ≡ t
-      → readingCheck (length src) g (length dst) t s (length bytes) (length words) ≡ Accepted
-      → ReadDone src u dst v s bytes words r dst′ bytes′ words′
-      → Reads src g dst t s bytes words (Counts r) dst′ bytes′ words′
-  done {r} {dst′} {bytes′} {words′} {u} {v} p q c d =
-      let d′ : ReadDone src g dst t s bytes words r dst′ bytes′ words′ =
-      subst (λ (k : Geometry). ReadDone src k dst t s bytes words r dst′ bytes′ words′) p (subst (λ (k : Geometry). ReadDone src u dst k s bytes words r dst′ bytes′ words′) q d) in
+      {g h : Geometry} {r : ReadingCounts} {left : ReadingLeft}
+      → Pair (length (lent .src)) (lent .source) (length (lent .dst)) (lent .target) g h
+      → (readingSettings (lent .settings) then readingRoom g (lent .settings) (length (lent .bytes)) (length (lent .words))) ≡ Accepted
+      → ReadDone (lent .src) g (lent .dst) h (lent .settings) (lent .bytes) (lent .words) r (left .dst) (left .bytes) (left .words)
+      → Reads lent (Counts r) left
+  done {r = r} {left = left} p taken d =
+      let c = past p {rest = λ g. readingSettings (lent .settings) then readingRoom g (lent .settings) (length (lent .bytes)) (length (lent .words))} taken .is in
+      let d′ : ReadDone (lent .src) (lent .source) (lent .dst) (lent .target) (lent .settings) (lent .bytes) (lent .words) r (left .dst) (left .bytes) (left .words) = rw (source-same p, target-same p) d in
       record { answers = rw c (ap Counts (d′ .counted)); leaves = rw c (d′ .leaves); bytes-left = rw c (d′ .bytes-long); words-left = rw c (d′ .words-long) }

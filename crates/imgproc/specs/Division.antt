@@ -5,14 +5,15 @@ use mathlib.Core.List.{List}
 use lib.ListN.{length}
 use Rattle.image.specs.declared.Geometry.{Geometry}
 use Rattle.image.specs.Layout.{Kept}
-use Rattle.image.specs.Plane.{plane, pixel, packed, painted, part}
+use Rattle.image.specs.Plane.{plane, pixel, painted, part, picture}
 use Rattle.imgproc.specs.declared.illumination.BackgroundDivideConfig.{BackgroundDivideConfig}
 use Rattle.imgproc.specs.declared.morphology.Compared.{Compared}
 use Rattle.imgproc.specs.declared.tally.Tally.{Tally}
 use Rattle.imgproc.specs.Reach.{sweepWalks}
 use Rattle.imgproc.specs.Morphology.{sweptRect, closed}
 use Rattle.imgproc.specs.MorphologyCalls.{compared}
-use Rattle.imgproc.specs.Refusals.{divisionCheck, leftBy, Lent}
+use Rattle.imgproc.specs.Refusals.{elementAndRoom}
+use Rattle.imgproc.specs.Calls.{Loan, Left, Serves}
 
 -- the Rust's defaults
 abbrev pub divisionDefaults : BackgroundDivideConfig
@@ -32,14 +33,9 @@ unfoldable pub divided : BackgroundDivideConfig → ℕ → ℕ → List ℕ →
 unfolding dividedBy sweptRect
 divided d w h p = dividedBy d w h p (closed (d .«structuring_element») w h p)
 
--- the contract of `background_divide_into`: its answer, the destination's bytes, and the workspace
-pub record Divides (src : List ℕ) (source : Geometry) (dst : List ℕ) (target : Geometry) (d : BackgroundDivideConfig) (ws : List ℕ) (answer : Compared) (dst′ ws′ : List ℕ) : Type 0 where
-  pub answers : answer ≡ compared (divisionCheck (length src) source (length dst) target d (length ws)) (2 * sweepWalks (d .«structuring_element») (source .width) (source .height))
-  pub leaves : dst′
-      ≡ leftBy (divisionCheck (length src) source (length dst) target d (length ws))
-      (painted (divided d (source .width) (source .height) (packed src (source .width) (source .height) (source .stride))) (source .width) (source .height) (target .stride) dst)
-      dst
-  pub workspace : Lent (divisionCheck (length src) source (length dst) target d (length ws)) ws ws′
+-- the contract of `background_divide_into`
+abbrev pub Divides : Loan BackgroundDivideConfig → Compared → Left → Type 0
+Divides = Serves elementAndRoom (λ d g check. compared check (2 * sweepWalks (d .«structuring_element») (g .width) (g .height))) divided
 
 -- ---- inside: what the parts of an accepted call ask and leave
 
@@ -52,7 +48,7 @@ pub record FlattenReady (tally : Tally) (src : List ℕ) (g : Geometry) (d : Bac
   pub room : tally .comparisons + 12 * (g .width * g .height) < 2 ^ 64
 
 pub record Flattened (tally : Tally) (src : List ℕ) (g : Geometry) (d : BackgroundDivideConfig) (ws : List ℕ) (raised : Tally) (ws′ : List ℕ) : Type 0 where
-  pub leaves : part (g .width * g .height) (g .width * g .height) ws′ ≡ divided d (g .width) (g .height) (packed src (g .width) (g .height) (g .stride))
+  pub leaves : part (g .width * g .height) (g .width * g .height) ws′ ≡ divided d (g .width) (g .height) (picture src g)
   pub counted : raised .comparisons ≡ tally .comparisons + 2 * sweepWalks (d .«structuring_element») (g .width) (g .height)
   pub long : length ws′ ≡ length ws
 
@@ -66,7 +62,7 @@ pub record DivideReady (src : List ℕ) (source : Geometry) (dst : List ℕ) (ta
   pub floor : 0 < d .«denominator_floor»
   pub fits : 6 * (source .width * source .height) ≤ length ws
 
-pub record Divided (src : List ℕ) (source : Geometry) (dst : List ℕ) (target : Geometry) (d : BackgroundDivideConfig) (ws : List ℕ) (n : ℕ) (dst′ ws′ : List ℕ) : Type 0 where
-  pub leaves : dst′ ≡ painted (divided d (source .width) (source .height) (packed src (source .width) (source .height) (source .stride))) (source .width) (source .height) (target .stride) dst
-  pub counted : n ≡ 2 * sweepWalks (d .«structuring_element») (source .width) (source .height)
+pub record Divided (src : List ℕ) (source : Geometry) (dst : List ℕ) (target : Geometry) (d : BackgroundDivideConfig) (ws : List ℕ) (raised : Tally) (dst′ ws′ : List ℕ) : Type 0 where
+  pub leaves : dst′ ≡ painted (divided d (source .width) (source .height) (picture src source)) (source .width) (source .height) (target .stride) dst
+  pub counted : raised .comparisons ≡ 2 * sweepWalks (d .«structuring_element») (source .width) (source .height)
   pub long : length ws′ ≡ length ws

@@ -10,7 +10,7 @@ use lib.Ieee.Scale.{finite}
 use Rattle.image.specs.declared.Geometry.{Geometry}
 use Rattle.image.specs.declared.LumaError.the-variants.{OutsidePicture}
 use Rattle.image.specs.Layout.{layoutOf, sideLimit}
-use Rattle.image.specs.Plane.{packed, overwritten}
+use Rattle.image.specs.Plane.{overwritten, picture}
 use Rattle.imgproc.specs.declared.ImgProcError.{ImgProcError}
 use Rattle.imgproc.specs.declared.ImgProcError.the-variants.{Image, InvalidConfiguration, WorkspaceTooSmall, GridBufferTooSmall}
 use Rattle.imgproc.specs.declared.Check.{Check}
@@ -77,8 +77,8 @@ builtOf (Refused e) x y = Built·Refused e
 -- the contract of `build`: the first t bytes of both buffers are the picture's thresholds and skips, and every other byte is as it was
 pub record Builds (src : List ℕ) (s : Geometry) (g : TileThresholdConfig) (ws th sk : List ℕ) (answer : Built) (ws′ th′ sk′ : List ℕ) : Type 0 where
   pub answers : answer ≡ builtOf (buildCheck (length src) s g (length ws) (length th) (length sk)) (tilesX g (s .width)) (tilesY g (s .height))
-  pub thresholds-left : th′ ≡ leftBy (buildCheck (length src) s g (length ws) (length th) (length sk)) (overwritten 0 (thresholds g (s .width) (s .height) (packed src (s .width) (s .height) (s .stride))) th) th
-  pub skips-left : sk′ ≡ leftBy (buildCheck (length src) s g (length ws) (length th) (length sk)) (overwritten 0 (skips g (s .width) (s .height) (packed src (s .width) (s .height) (s .stride))) sk) sk
+  pub thresholds-left : th′ ≡ leftBy (buildCheck (length src) s g (length ws) (length th) (length sk)) (overwritten 0 (thresholds g (s .width) (s .height) (picture src s)) th) th
+  pub skips-left : sk′ ≡ leftBy (buildCheck (length src) s g (length ws) (length th) (length sk)) (overwritten 0 (skips g (s .width) (s .height) (picture src s)) sk) sk
   pub workspace-left : Lent (buildCheck (length src) s g (length ws) (length th) (length sk)) ws ws′
 
 -- buffers that hold t tiles
@@ -89,8 +89,8 @@ pub record Rooms (t : ℕ) (ws th sk : List ℕ) : Type 0 where
 
 -- what an accepted build leaves
 pub record Fills (src : List ℕ) (s : Geometry) (g : TileThresholdConfig) (ws th sk ws′ th′ sk′ : List ℕ) : Type 0 where
-  pub thresholds-left : th′ ≡ overwritten 0 (thresholds g (s .width) (s .height) (packed src (s .width) (s .height) (s .stride))) th
-  pub skips-left : sk′ ≡ overwritten 0 (skips g (s .width) (s .height) (packed src (s .width) (s .height) (s .stride))) sk
+  pub thresholds-left : th′ ≡ overwritten 0 (thresholds g (s .width) (s .height) (picture src s)) th
+  pub skips-left : sk′ ≡ overwritten 0 (skips g (s .width) (s .height) (picture src s)) sk
   pub long : length ws′ ≡ length ws
 
 -- ---- queries

@@ -8,6 +8,7 @@ pub mod Walks
 pub mod Compared
 pub mod Morphology
 pub mod Sweeps
+pub mod Calls
 pub mod MorphologyCalls
 pub mod MorphologyLaws
 pub mod Division

@@ -5,7 +5,7 @@ use mathlib.Core.List.{List}
 use lib.ListN.{length}
 use Rattle.image.specs.declared.Geometry.{Geometry}
 use Rattle.image.specs.Layout.{Kept}
-use Rattle.image.specs.Plane.{packed, painted, part}
+use Rattle.image.specs.Plane.{painted, part, picture}
 use Rattle.imgproc.specs.declared.Check.{Check}
 use Rattle.imgproc.specs.declared.Check.the-variants.{Accepted, Refused}
 use Rattle.imgproc.specs.declared.morphology.Operation.{Operation}
@@ -14,7 +14,8 @@ use Rattle.imgproc.specs.declared.morphology.Compared.{Compared}
 use Rattle.imgproc.specs.declared.morphology.Compared.the-variants.{Comparisons, Refused as Compared·Refused}
 use Rattle.imgproc.specs.declared.tally.Tally.{Tally}
 use Rattle.imgproc.specs.Reach.{sweepWalks, R}
-use Rattle.imgproc.specs.Refusals.{morphologyCheck, leftBy, Lent}
+use Rattle.imgproc.specs.Refusals.{kernelAndRoom}
+use Rattle.imgproc.specs.Calls.{Loan, Left, Serves}
 use Rattle.imgproc.specs.Morphology.{eroded, dilated, opened, closed}
 
 -- the packed picture that an operation makes
@@ -40,17 +41,12 @@ operationR Close k w h = 2 * R k w h
 
 -- the answer of a call that counts: its comparisons, or the refusal
 abbrev pub compared : Check → ℕ → Compared
-compared Accepted n = Comparisons n
+compared Accepted n = Comparisons (record { comparisons = n })
 compared (Refused e) n = Compared·Refused e
 
--- the contract of a morphology call: the source and its geometry, the destination and its own, the kernel and the workspace; then the answer, and both buffers at exit
-pub record Applies (operation : Operation) (src : List ℕ) (source : Geometry) (dst : List ℕ) (target : Geometry) (k : ℕ) (ws : List ℕ) (answer : Compared) (dst′ ws′ : List ℕ) : Type 0 where
-  pub answers : answer ≡ compared (morphologyCheck (length src) source (length dst) target k (length ws)) (operationWalks operation k (source .width) (source .height))
-  pub leaves : dst′
-      ≡ leftBy (morphologyCheck (length src) source (length dst) target k (length ws))
-      (painted (operated operation k (source .width) (source .height) (packed src (source .width) (source .height) (source .stride))) (source .width) (source .height) (target .stride) dst)
-      dst
-  pub workspace : Lent (morphologyCheck (length src) source (length dst) target k (length ws)) ws ws′
+-- the contract of a morphology call, whose settings are its kernel
+abbrev pub Applies : Operation → Loan ℕ → Compared → Left → Type 0
+Applies operation = Serves kernelAndRoom (λ k g check. compared check (operationWalks operation k (g .width) (g .height))) (operated operation)
 
 -- ---- inside: what the parts of an accepted call ask and leave
 
@@ -73,9 +69,9 @@ pub record CountReady (d : List ℕ) (k w h : ℕ) : Type 0 where
   pub wide : 0 < w
   pub room : 12 * (w * h) < 2 ^ 64
 
-pub record Counts (operation : Operation) (d : List ℕ) (k w h n : ℕ) (d′ : List ℕ) : Type 0 where
+pub record Counts (operation : Operation) (d : List ℕ) (k w h : ℕ) (raised : Tally) (d′ : List ℕ) : Type 0 where
   pub leaves : part (w * h) (w * h) d′ ≡ operated operation k w h (part 0 (w * h) d)
-  pub counted : n ≡ operationWalks operation k w h
+  pub counted : raised .comparisons ≡ operationWalks operation k w h
   pub long : length d′ ≡ length d
 
 -- from picture to picture
@@ -87,7 +83,7 @@ pub record RunReady (src : List ℕ) (source : Geometry) (dst : List ℕ) (targe
   pub kernel : 0 < k
   pub fits : 6 * (source .width * source .height) ≤ length ws
 
-pub record Runs (operation : Operation) (src : List ℕ) (source : Geometry) (dst : List ℕ) (target : Geometry) (k : ℕ) (ws : List ℕ) (n : ℕ) (dst′ ws′ : List ℕ) : Type 0 where
-  pub leaves : dst′ ≡ painted (operated operation k (source .width) (source .height) (packed src (source .width) (source .height) (source .stride))) (source .width) (source .height) (target .stride) dst
-  pub counted : n ≡ operationWalks operation k (source .width) (source .height)
+pub record Runs (operation : Operation) (src : List ℕ) (source : Geometry) (dst : List ℕ) (target : Geometry) (k : ℕ) (ws : List ℕ) (raised : Tally) (dst′ ws′ : List ℕ) : Type 0 where
+  pub leaves : dst′ ≡ painted (operated operation k (source .width) (source .height) (picture src source)) (source .width) (source .height) (target .stride) dst
+  pub counted : raised .comparisons ≡ operationWalks operation k (source .width) (source .height)
   pub long : length ws′ ≡ length ws

@@ -27,7 +27,7 @@ settings element m grid sauvola = record {
 }
 
 abbrev pub counts : ReadingCounts → List ℕ
-counts r = r .dark ∷ r .light ∷ r .skipped ∷ r .comparisons ∷ []
+counts r = r .dark ∷ r .light ∷ r .skipped ∷ r .tally .comparisons ∷ []
 
 -- 6 by 4 at a stride of 8
 abbrev pub shaded : List ℕ

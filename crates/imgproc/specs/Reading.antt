@@ -6,7 +6,7 @@ use lib.Dec.{ltb}
 use mathlib.Core.List.{List}
 use lib.ListN.{length}
 use Rattle.image.specs.declared.Geometry.{Geometry}
-use Rattle.image.specs.Plane.{plane, packed, painted}
+use Rattle.image.specs.Plane.{plane, painted, picture}
 use Rattle.imgproc.specs.declared.reading.ReadingConfig.{ReadingConfig}
 use Rattle.imgproc.specs.declared.reading.ReadingCounts.{ReadingCounts}
 use Rattle.imgproc.specs.declared.judging.Judgement.{Judgement}
@@ -72,7 +72,7 @@ readingOf s w h p = record {
   dark = pixels w h (λ x y. isDark (judged s w h p x y));
   light = pixels w h (λ x y. isLight (judged s w h p x y));
   skipped = pixels w h (λ x y. isSkipped (judged s w h p x y));
-  comparisons = comparisonsOf s w h;
+  tally = record { comparisons = comparisonsOf s w h };
 }
 
 -- the byte of a judgement: a skipped pixel gets light_value
@@ -115,12 +115,36 @@ abbrev pub readBy : Check → ReadingCounts → Read
 readBy Accepted r = Counts r
 readBy (Refused e) r = Read·Refused e
 
+-- what a reading is lent
+pub record ReadingLent : Type 0 where
+  pub src : List ℕ
+  pub source : Geometry
+  pub dst : List ℕ
+  pub target : Geometry
+  pub settings : ReadingConfig
+  pub bytes : List ℕ
+  pub words : List ℕ
+
+-- what is left of it
+pub record ReadingLeft : Type 0 where
+  pub dst : List ℕ
+  pub bytes : List ℕ
+  pub words : List ℕ
+
+abbrev pub readingCheckOf : ReadingLent → Check
+readingCheckOf lent = readingCheck (length (lent .src)) (lent .source) (length (lent .dst)) (lent .target) (lent .settings) (length (lent .bytes)) (length (lent .words))
+
+-- the counts of what was lent, and its marks in the destination's rows
+abbrev pub countsOf : ReadingLent → ReadingCounts
+countsOf lent = let g = lent .source in readingOf (lent .settings) (g .width) (g .height) (picture (lent .src) g)
+
+abbrev pub marksOf : ReadingLent → List ℕ
+marksOf lent =
+    let g = lent .source in painted (marked (lent .settings) (g .width) (g .height) (picture (lent .src) g)) (g .width) (g .height) (lent .target .stride) (lent .dst)
+
 -- the contract of a reading: its answer, the destination's bytes, and both workspaces
-pub record Reads (src : List ℕ) (source : Geometry) (dst : List ℕ) (target : Geometry) (s : ReadingConfig) (bytes words : List ℕ) (answer : Read) (dst′ bytes′ words′ : List ℕ) : Type 0 where
-  pub answers : answer ≡ readBy (readingCheck (length src) source (length dst) target s (length bytes) (length words)) (readingOf s (source .width) (source .height) (packed src (source .width) (source .height) (source .stride)))
-  pub leaves : dst′
-      ≡ leftBy (readingCheck (length src) source (length dst) target s (length bytes) (length words))
-      (painted (marked s (source .width) (source .height) (packed src (source .width) (source .height) (source .stride))) (source .width) (source .height) (target .stride) dst)
-      dst
-  pub bytes-left : Lent (readingCheck (length src) source (length dst) target s (length bytes) (length words)) bytes bytes′
-  pub words-left : Lent (readingCheck (length src) source (length dst) target s (length bytes) (length words)) words words′
+pub record Reads (lent : ReadingLent) (answer : Read) (left : ReadingLeft) : Type 0 where
+  pub answers : answer ≡ readBy (readingCheckOf lent) (countsOf lent)
+  pub leaves : left .dst ≡ leftBy (readingCheckOf lent) (marksOf lent) (lent .dst)
+  pub bytes-left : Lent (readingCheckOf lent) (lent .bytes) (left .bytes)
+  pub words-left : Lent (readingCheckOf lent) (lent .words) (left .words)

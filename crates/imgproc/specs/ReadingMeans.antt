@@ -11,7 +11,7 @@ use lib.ListN.{length, getD}
 use borrow.Author.Tests.{ltb-true, leb-true, le-leb}
 use Rattle.image.specs.declared.Geometry.{Geometry}
 use Rattle.image.specs.LayoutLaws.{row-within}
-use Rattle.image.specs.Plane.{pixel, packed, painted}
+use Rattle.image.specs.Plane.{pixel, packed, painted, picture}
 use Rattle.image.specs.PlaneLaws.{pixel-plane}
 use Rattle.image.specs.PaintLaws.{length-painted, painted-byte, painted-pixel}
 use Rattle.imgproc.specs.declared.reading.ReadingConfig.{ReadingConfig}
@@ -63,7 +63,7 @@ pub record AcceptedReading (s : ReadingConfig) : Type 0 where
   pub dst′ : List ℕ
   pub bytes′ : List ℕ
   pub words′ : List ℕ
-  pub reads : Reads src source dst target s bytes words (Counts counts) dst′ bytes′ words′
+  pub reads : Reads (record { src = src; source = source; dst = dst; target = target; settings = s; bytes = bytes; words = words }) (Counts counts) (record { dst = dst′; bytes = bytes′; words = words′ })
 
 taken : (c : Check) {r q : ReadingCounts} → Counts r ≡ readBy c q → (c ≡ Accepted) × (r ≡ q)
 taken Accepted {r} {q} p = (refl, cc)
@@ -111,10 +111,10 @@ module _ {s : ReadingConfig} (a : AcceptedReading s) where
       (division-says (s .division) (p .0) .0, kernel-says (s .«opening_kernel») (not-refused (badKernel (s .«opening_kernel»)) InvalidKernel (both-accepted m last (p .1) .0)))
 
   -- the comparisons are 2R(k) + 2R(m), below 24wh
-  pub compared : (a .counts .comparisons ≡ comparisonsOf s (a .source .width) (a .source .height)) × (a .counts .comparisons < 24 * (a .source .width * a .source .height))
+  pub compared : (a .counts .tally .comparisons ≡ comparisonsOf s (a .source .width) (a .source .height)) × (a .counts .tally .comparisons < 24 * (a .source .width * a .source .height))
   unfolding readingOf
   compared =
-      let e : a .counts .comparisons ≡ comparisonsOf s (a .source .width) (a .source .height) = ap (λ (c : ReadingCounts). c .comparisons) counts-are in
+      let e : a .counts .tally .comparisons ≡ comparisonsOf s (a .source .width) (a .source .height) = ap (λ (c : ReadingCounts). c .tally .comparisons) counts-are in
       (e, omega (arith, comparisons-below s (a .source .width) (a .source .height) (pair .from .wide) (pair .from .high) (omega (arith, kernels .0)) (omega (arith, kernels .1))))
 
   left : a .dst′ ≡ painted (marked s (a .source .width) (a .source .height) pixelsOf) (a .source .width) (a .source .height) (a .target .stride) (a .dst)
@@ -177,7 +177,7 @@ module _ {s : ReadingConfig} (a b : AcceptedReading s) (wide : a .source .width 
 
 -- a refused reading: the first condition that fits gives its refusal, and every lent byte is as it was
 module _ (src : List ℕ) (source : Geometry) (dst : List ℕ) (target : Geometry) (s : ReadingConfig) (bytes words : List ℕ) (e : ImgProcError) (dst′ bytes′ words′ : List ℕ)
-    (reads : Reads src source dst target s bytes words (Read·Refused e) dst′ bytes′ words′) where
+    (reads : Reads (record { src = src; source = source; dst = dst; target = target; settings = s; bytes = bytes; words = words }) (Read·Refused e) (record { dst = dst′; bytes = bytes′; words = words′ })) where
   pub refused-by : readingCheck (length src) source (length dst) target s (length bytes) (length words) ≡ Refused e
   refused-by = turned (readingCheck (length src) source (length dst) target s (length bytes) (length words)) _ (reads .answers)
     where
@@ -187,7 +187,7 @@ module _ (src : List ℕ) (source : Geometry) (dst : List ℕ) (target : Geometr
 
   pub refused-keeps : (dst′ ≡ dst) × ((bytes′ ≡ bytes) × (words′ ≡ words))
   refused-keeps =
-      let after = painted (marked s (source .width) (source .height) (packed src (source .width) (source .height) (source .stride))) (source .width) (source .height) (target .stride) dst in (
+      let after = painted (marked s (source .width) (source .height) (picture src source)) (source .width) (source .height) (target .stride) dst in (
         reads .leaves ∙ ap (λ (c : Check). leftBy c after dst) refused-by,
         (
           subst (λ (c : Check). Lent c bytes bytes′) refused-by (reads .bytes-left),

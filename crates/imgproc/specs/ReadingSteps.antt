@@ -5,7 +5,7 @@ use mathlib.Core.List.{List}
 use lib.ListN.{length, getD}
 use Rattle.image.specs.declared.Geometry.{Geometry}
 use Rattle.image.specs.Layout.{Kept}
-use Rattle.image.specs.Plane.{plane, packed, painted, part}
+use Rattle.image.specs.Plane.{plane, painted, part, picture}
 use Rattle.imgproc.specs.declared.reading.ReadingConfig.{ReadingConfig}
 use Rattle.imgproc.specs.declared.reading.ReadingCounts.{ReadingCounts}
 use Rattle.imgproc.specs.declared.judging.Judged.{Judged}
@@ -65,7 +65,7 @@ pub record OpenReady (tally : Tally) (src : List ℕ) (g : Geometry) (s : Readin
   pub room : tally .comparisons + 24 * (g .width * g .height) < 2 ^ 64
 
 pub record Opened (tally : Tally) (src : List ℕ) (g : Geometry) (s : ReadingConfig) (ws : List ℕ) (raised : Tally) (ws′ : List ℕ) : Type 0 where
-  pub leaves : part 0 (g .width * g .height) ws′ ≡ openedOf s (g .width) (g .height) (packed src (g .width) (g .height) (g .stride))
+  pub leaves : part 0 (g .width * g .height) ws′ ≡ openedOf s (g .width) (g .height) (picture src g)
   pub counted : raised .comparisons ≡ tally .comparisons + 2 * sweepWalks (s .division .«structuring_element») (g .width) (g .height) + 2 * sweepWalks (s .«opening_kernel») (g .width) (g .height)
   pub long : length ws′ ≡ length ws
 
@@ -107,7 +107,7 @@ pub record ReadReady (src : List ℕ) (source : Geometry) (dst : List ℕ) (targ
   pub words-fit : tableEntries (source .width) (source .height) + 5 * tileCount (s .grid) (source .width) (source .height) ≤ length words
 
 pub record ReadDone (src : List ℕ) (source : Geometry) (dst : List ℕ) (target : Geometry) (s : ReadingConfig) (bytes words : List ℕ) (counts : ReadingCounts) (dst′ bytes′ words′ : List ℕ) : Type 0 where
-  pub counted : counts ≡ readingOf s (source .width) (source .height) (packed src (source .width) (source .height) (source .stride))
-  pub leaves : dst′ ≡ painted (marked s (source .width) (source .height) (packed src (source .width) (source .height) (source .stride))) (source .width) (source .height) (target .stride) dst
+  pub counted : counts ≡ readingOf s (source .width) (source .height) (picture src source)
+  pub leaves : dst′ ≡ painted (marked s (source .width) (source .height) (picture src source)) (source .width) (source .height) (target .stride) dst
   pub bytes-long : length bytes′ ≡ length bytes
   pub words-long : length words′ ≡ length words

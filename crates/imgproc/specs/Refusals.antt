@@ -61,23 +61,23 @@ abbrev pub Lent : Check → List ℕ → List ℕ → Type 0
 Lent Accepted before after = length after ≡ length before
 Lent (Refused e) before after = after ≡ before
 
--- Morphology: the layouts; 5; the kernel; the byte workspace under 6wh
-abbrev pub morphologyCheck : ℕ → Geometry → ℕ → Geometry → ℕ → ℕ → Check
-morphologyCheck srcLen src dstLen dst kernel room =
-    pairCheck srcLen src dstLen dst then
+-- every call with a source and a destination: the layouts; 5; and then, of the source's sides, what is its own
+
+-- Morphology: the kernel; the byte workspace under 6wh
+abbrev pub kernelAndRoom : ℕ → Geometry → ℕ → Check
+kernelAndRoom kernel g room =
     refusedIf (badKernel kernel) InvalidKernel then
-    refusedIf (ltb room (6 * (src .width * src .height))) WorkspaceTooSmall
+    refusedIf (ltb room (6 * (g .width * g .height))) WorkspaceTooSmall
 
 -- division settings: the element under 3 or even, or denominator_floor 0, is 7
 abbrev pub divisionSettings : BackgroundDivideConfig → Check
 divisionSettings d = refusedIf (badKernel (d .«structuring_element») || eqb (d .«denominator_floor») 0) InvalidConfiguration
 
--- Division: the layouts; 5; the settings; the byte workspace under 7wh
-abbrev pub divisionCheck : ℕ → Geometry → ℕ → Geometry → BackgroundDivideConfig → ℕ → Check
-divisionCheck srcLen src dstLen dst d room =
-    pairCheck srcLen src dstLen dst then
+-- Division: the settings; the byte workspace under 7wh
+abbrev pub elementAndRoom : BackgroundDivideConfig → Geometry → ℕ → Check
+elementAndRoom d g room =
     divisionSettings d then
-    refusedIf (ltb room (7 * (src .width * src .height))) WorkspaceTooSmall
+    refusedIf (ltb room (7 * (g .width * g .height))) WorkspaceTooSmall
 
 -- Sauvola: radius 0, k_milli above 1,000 or dynamic_range 0 is 7
 abbrev pub sauvolaSettings : SauvolaConfig → Check
@@ -87,14 +87,8 @@ sauvolaSettings config = refusedIf (eqb (config .radius) 0 || (ltb 1000 (config 
 abbrev pub tableEntries : ℕ → ℕ → ℕ
 tableEntries w h = 2 * ((w + 1) * (h + 1))
 
--- the settings, then a u64 workspace under 2(w + 1)(h + 1) is 8
+-- Sauvola: the settings; a u64 workspace under 2(w + 1)(h + 1) is 8
 abbrev pub settingsAndRoom : SauvolaConfig → Geometry → ℕ → Check
 settingsAndRoom config g room =
     sauvolaSettings config then
     refusedIf (ltb room (tableEntries (g .width) (g .height))) WorkspaceTooSmall
-
--- Sauvola: layouts; 5; settings 7; workspace 8
-abbrev pub sauvolaCheck : ℕ → Geometry → ℕ → Geometry → SauvolaConfig → ℕ → Check
-sauvolaCheck srcLen src dstLen dst config room =
-    pairCheck srcLen src dstLen dst then
-    settingsAndRoom config src room

@@ -1,12 +1,10 @@
 -- Document 01, part 6: the whole-number threshold of a pixel, by direct summation over its window, and the contract of `sauvola_into`. Definitions only.
 use Prim.Native.Nat.{ℕ, _+_, _-_, _*_, _/_}
-use mathlib.Core.Path.{_≡_}
 use mathlib.Core.Bool.{Bool, cond}
 use mathlib.Core.List.{List}
 use lib.Dec.{leb}
-use lib.ListN.{length}
 use Rattle.image.specs.declared.Geometry.{Geometry}
-use Rattle.image.specs.Plane.{pixel, plane, packed, painted}
+use Rattle.image.specs.Plane.{pixel, plane, painted, picture}
 use Rattle.imgproc.specs.declared.Check.{Check}
 use Rattle.imgproc.specs.declared.Check.the-variants.{Accepted, Refused}
 use Rattle.imgproc.specs.declared.threshold.SauvolaConfig.{SauvolaConfig}
@@ -16,7 +14,8 @@ use Rattle.imgproc.specs.Fold.{Box, foldBox}
 use Rattle.imgproc.specs.Reach.{low, high}
 use Rattle.imgproc.specs.Sums.{sum, sumSquares, count}
 use Rattle.imgproc.specs.WholeRoot.{wholeRoot}
-use Rattle.imgproc.specs.Refusals.{errorNumber, sauvolaCheck, leftBy, Lent}
+use Rattle.imgproc.specs.Refusals.{errorNumber, settingsAndRoom}
+use Rattle.imgproc.specs.Calls.{Loan, Left, Serves}
 
 -- the Rust's defaults
 abbrev pub sauvolaDefaults : SauvolaConfig
@@ -82,10 +81,8 @@ binarizedNumber (Binarized·Refused e) = errorNumber e
 -- the destination after an accepted call: its rows hold the verdicts on the source
 abbrev pub binarisedInto : SauvolaConfig → List ℕ → Geometry → List ℕ → Geometry → List ℕ
 binarisedInto config src g dst d =
-    painted (binarised config (g .width) (g .height) (packed src (g .width) (g .height) (g .stride))) (g .width) (g .height) (d .stride) dst
+    painted (binarised config (g .width) (g .height) (picture src g)) (g .width) (g .height) (d .stride) dst
 
--- the contract of `sauvola_into`: its answer, the destination's bytes, and the workspace
-pub record Binarizes (src : List ℕ) (g : Geometry) (dst : List ℕ) (d : Geometry) (config : SauvolaConfig) (workspace : List ℕ) (answer : Binarized) (dst′ workspace′ : List ℕ) : Type 0 where
-  pub answers : answer ≡ binarizedBy (sauvolaCheck (length src) g (length dst) d config (length workspace))
-  pub leaves : dst′ ≡ leftBy (sauvolaCheck (length src) g (length dst) d config (length workspace)) (binarisedInto config src g dst d) dst
-  pub keeps : Lent (sauvolaCheck (length src) g (length dst) d config (length workspace)) workspace workspace′
+-- the contract of `sauvola_into`
+abbrev pub Binarizes : Loan SauvolaConfig → Binarized → Left → Type 0
+Binarizes = Serves settingsAndRoom (λ config g check. binarizedBy check) binarised

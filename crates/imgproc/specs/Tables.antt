@@ -5,14 +5,10 @@ use mathlib.Core.List.{List}
 use lib.ListN.{length, getD}
 use Rattle.image.specs.declared.Geometry.{Geometry}
 use Rattle.image.specs.Layout.{Kept}
-use Rattle.image.specs.Plane.{pixel, packed}
+use Rattle.image.specs.Plane.{pixel, picture}
 use Rattle.imgproc.specs.declared.threshold.SauvolaConfig.{SauvolaConfig}
 use Rattle.imgproc.specs.Refusals.{tableEntries}
 use Rattle.imgproc.specs.Sums.{squared, boxSum}
-
--- the pixels of a strided picture, packed
-abbrev pub picture : List ℕ → Geometry → List ℕ
-picture d g = packed d (g .width) (g .height) (g .stride)
 
 -- pixel (x, y) of the packed picture
 abbrev pub pixelsOf : List ℕ → Geometry → ℕ → ℕ → ℕ

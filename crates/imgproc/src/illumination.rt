@@ -4,7 +4,6 @@ use crate::ImgProcError;
 use crate::morphology::Compared;
 use crate::rect::close_rect_into;
 use crate::tally::Tally;
-use crate::tally::comparisons;
 use crate::tally::start;
 use image::Geometry;
 use image::Layout;
@@ -110,7 +109,7 @@ pub(crate) fn flatten(
     raised
 }
 
-// The work of an accepted call: one tally, started at 0, through the closing, and read out.
+// The work of an accepted call: one tally, started at 0, through the closing.
 fn divide_picture(
     src: &[u8],
     src_geometry: Geometry,
@@ -118,14 +117,14 @@ fn divide_picture(
     dst_geometry: Geometry,
     config: BackgroundDivideConfig,
     workspace: &mut [u8],
-) -> u64
+) -> Tally
     requires { ⌜ DivideReady (now src) «src_geometry» (now dst) «dst_geometry» config (now workspace) ⌝ }
     ensures { λ n. ⌜ Divided (now (src .entry)) «src_geometry» (now (dst .entry)) «dst_geometry» config (now (workspace .entry)) n (now (dst .exit)) (now (workspace .exit)) ⌝ }
 {
     let plane = src_geometry.width * src_geometry.height;
     let tally = flatten(start(), src, src_geometry, config, workspace);
     let _painted = image::unpack(workspace, plane, dst, dst_geometry);
-    comparisons(tally)
+    tally
 }
 
 // Whether the settings are in range: a bad element is 7 here, and not a bad kernel.
@@ -153,7 +152,20 @@ pub fn background_divide_into(
     config: BackgroundDivideConfig,
     workspace: &mut [u8],
 ) -> Compared
-    ensures { λ r. ⌜ Divides (now (src .entry)) «src_geometry» (now (dst .entry)) «dst_geometry» config (now (workspace .entry)) r (now (dst .exit)) (now (workspace .exit)) ⌝ }
+    ensures { λ r.
+        ⌜
+        Divides
+        (record {
+          src = now (src .entry);
+          source = «src_geometry»;
+          dst = now (dst .entry);
+          target = «dst_geometry»;
+          settings = config;
+          workspace = now (workspace .entry);
+        })
+        r
+        (record { dst = now (dst .exit); workspace = now (workspace .exit) })
+        ⌝ }
 {
     let layout = image::validate_layout(src.len(), src_geometry);
     let Layout::Valid(g) = layout else {

@@ -11,7 +11,7 @@ pub mod root;
 mod surface;
 mod sweeps;
 mod tables;
-mod tally;
+pub mod tally;
 pub mod threshold;
 mod tiles;
 

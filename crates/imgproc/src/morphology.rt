@@ -5,7 +5,6 @@ use crate::rect::close_rect_into;
 use crate::rect::morph_rect_into;
 use crate::rect::open_rect_into;
 use crate::tally::Tally;
-use crate::tally::comparisons;
 use crate::tally::start;
 use image::Geometry;
 use image::Layout;
@@ -18,9 +17,9 @@ enum Operation {
     Close,
 }
 
-// The comparisons that a call made, or its refusal.
+// The tally of the comparisons that a call made, or its refusal.
 pub enum Compared {
-    Comparisons(u64),
+    Comparisons(Tally),
     Refused(ImgProcError),
 }
 
@@ -61,12 +60,12 @@ fn operate(
     }
 }
 
-// One tally, started at 0, through an operation, and read out.
-fn count(ws: &mut [u8], kernel: usize, width: usize, height: usize, operation: Operation) -> u64
+// One tally, started at 0, through an operation.
+fn count(ws: &mut [u8], kernel: usize, width: usize, height: usize, operation: Operation) -> Tally
     requires { ⌜ CountReady (now ws) kernel width height ⌝ }
     ensures { λ n. ⌜ Counts operation (now (ws .entry)) kernel width height n (now (ws .exit)) ⌝ }
 {
-    comparisons(operate(start(), ws, kernel, width, height, operation))
+    operate(start(), ws, kernel, width, height, operation)
 }
 
 // The work of an accepted call: packed, operated on, painted.
@@ -78,16 +77,16 @@ fn run(
     kernel: usize,
     operation: Operation,
     workspace: &mut [u8],
-) -> u64
+) -> Tally
     requires { ⌜ RunReady (now src) «src_geometry» (now dst) «dst_geometry» kernel (now workspace) ⌝ }
     ensures { λ n. ⌜ Runs operation (now (src .entry)) «src_geometry» (now (dst .entry)) «dst_geometry» kernel (now (workspace .entry)) n (now (dst .exit)) (now (workspace .exit)) ⌝ }
 {
     let width = src_geometry.width;
     let height = src_geometry.height;
     let _packed = image::pack(src, src_geometry, workspace, 0);
-    let n = count(workspace, kernel, width, height, operation);
+    let tally = count(workspace, kernel, width, height, operation);
     let _painted = image::unpack(workspace, width * height, dst, dst_geometry);
-    n
+    tally
 }
 
 // What each call refuses, in order, and then its work.
@@ -100,7 +99,20 @@ fn apply_into(
     operation: Operation,
     workspace: &mut [u8],
 ) -> Compared
-    ensures { λ r. ⌜ Applies operation (now (src .entry)) «src_geometry» (now (dst .entry)) «dst_geometry» «kernel_size» (now (workspace .entry)) r (now (dst .exit)) (now (workspace .exit)) ⌝ }
+    ensures { λ r.
+        ⌜
+        Applies operation
+        (record {
+          src = now (src .entry);
+          source = «src_geometry»;
+          dst = now (dst .entry);
+          target = «dst_geometry»;
+          settings = «kernel_size»;
+          workspace = now (workspace .entry);
+        })
+        r
+        (record { dst = now (dst .exit); workspace = now (workspace .exit) })
+        ⌝ }
 {
     let layout = image::validate_layout(src.len(), src_geometry);
     let Layout::Valid(g) = layout else {
@@ -137,7 +149,20 @@ pub fn grayscale_erode_into(
     kernel_size: usize,
     workspace: &mut [u8],
 ) -> Compared
-    ensures { λ r. ⌜ Applies Operation.Erode (now (src .entry)) «src_geometry» (now (dst .entry)) «dst_geometry» «kernel_size» (now (workspace .entry)) r (now (dst .exit)) (now (workspace .exit)) ⌝ }
+    ensures { λ r.
+        ⌜
+        Applies Operation.Erode
+        (record {
+          src = now (src .entry);
+          source = «src_geometry»;
+          dst = now (dst .entry);
+          target = «dst_geometry»;
+          settings = «kernel_size»;
+          workspace = now (workspace .entry);
+        })
+        r
+        (record { dst = now (dst .exit); workspace = now (workspace .exit) })
+        ⌝ }
 {
     apply_into(
         src,
@@ -159,7 +184,20 @@ pub fn grayscale_dilate_into(
     kernel_size: usize,
     workspace: &mut [u8],
 ) -> Compared
-    ensures { λ r. ⌜ Applies Operation.Dilate (now (src .entry)) «src_geometry» (now (dst .entry)) «dst_geometry» «kernel_size» (now (workspace .entry)) r (now (dst .exit)) (now (workspace .exit)) ⌝ }
+    ensures { λ r.
+        ⌜
+        Applies Operation.Dilate
+        (record {
+          src = now (src .entry);
+          source = «src_geometry»;
+          dst = now (dst .entry);
+          target = «dst_geometry»;
+          settings = «kernel_size»;
+          workspace = now (workspace .entry);
+        })
+        r
+        (record { dst = now (dst .exit); workspace = now (workspace .exit) })
+        ⌝ }
 {
     apply_into(
         src,
@@ -181,7 +219,20 @@ pub fn grayscale_open_into(
     kernel_size: usize,
     workspace: &mut [u8],
 ) -> Compared
-    ensures { λ r. ⌜ Applies Operation.Open (now (src .entry)) «src_geometry» (now (dst .entry)) «dst_geometry» «kernel_size» (now (workspace .entry)) r (now (dst .exit)) (now (workspace .exit)) ⌝ }
+    ensures { λ r.
+        ⌜
+        Applies Operation.Open
+        (record {
+          src = now (src .entry);
+          source = «src_geometry»;
+          dst = now (dst .entry);
+          target = «dst_geometry»;
+          settings = «kernel_size»;
+          workspace = now (workspace .entry);
+        })
+        r
+        (record { dst = now (dst .exit); workspace = now (workspace .exit) })
+        ⌝ }
 {
     apply_into(
         src,
@@ -203,7 +254,20 @@ pub fn grayscale_close_into(
     kernel_size: usize,
     workspace: &mut [u8],
 ) -> Compared
-    ensures { λ r. ⌜ Applies Operation.Close (now (src .entry)) «src_geometry» (now (dst .entry)) «dst_geometry» «kernel_size» (now (workspace .entry)) r (now (dst .exit)) (now (workspace .exit)) ⌝ }
+    ensures { λ r.
+        ⌜
+        Applies Operation.Close
+        (record {
+          src = now (src .entry);
+          source = «src_geometry»;
+          dst = now (dst .entry);
+          target = «dst_geometry»;
+          settings = «kernel_size»;
+          workspace = now (workspace .entry);
+        })
+        r
+        (record { dst = now (dst .exit); workspace = now (workspace .exit) })
+        ⌝ }
 {
     apply_into(
         src,

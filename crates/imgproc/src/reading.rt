@@ -8,7 +8,6 @@ use crate::judging::judge_picture;
 use crate::rect::open_rect_into;
 use crate::surface;
 use crate::tally::Tally;
-use crate::tally::comparisons;
 use crate::tally::start;
 use crate::threshold::SauvolaConfig;
 use crate::tiles;
@@ -30,7 +29,7 @@ pub struct ReadingCounts {
     pub dark: u64,
     pub light: u64,
     pub skipped: u64,
-    pub comparisons: u64,
+    pub tally: Tally,
 }
 
 // The four counts of a reading, or its refusal.
@@ -73,7 +72,7 @@ fn mark_tiles(packed: Geometry, config: ReadingConfig, bytes: &mut [u8], words: 
     surface::write_skips(words, 0, width, height, grid, bytes, 9 * plane);
 }
 
-// The work of an accepted reading: one tally, started at 0, through the closing and the opening, and read out.
+// The work of an accepted reading: one tally, started at 0, through the closing and the opening.
 fn read_picture(
     src: &[u8],
     src_geometry: Geometry,
@@ -98,7 +97,7 @@ fn read_picture(
         dark: judged.dark,
         light: judged.light,
         skipped: judged.skipped,
-        comparisons: comparisons(tally),
+        tally,
     }
 }
 
@@ -156,7 +155,21 @@ pub fn reading(
     bytes: &mut [u8],
     words: &mut [u64],
 ) -> Read
-    ensures { λ r. ⌜ Reads (now (src .entry)) «src_geometry» (now (dst .entry)) «dst_geometry» config (now (bytes .entry)) (now (words .entry)) r (now (dst .exit)) (now (bytes .exit)) (now (words .exit)) ⌝ }
+    ensures { λ r.
+        ⌜
+        Reads
+        (record {
+          src = now (src .entry);
+          source = «src_geometry»;
+          dst = now (dst .entry);
+          target = «dst_geometry»;
+          settings = config;
+          bytes = now (bytes .entry);
+          words = now (words .entry);
+        })
+        r
+        (record { dst = now (dst .exit); bytes = now (bytes .exit); words = now (words .exit) })
+        ⌝ }
 {
     let layout = image::validate_layout(src.len(), src_geometry);
     let Layout::Valid(g) = layout else {

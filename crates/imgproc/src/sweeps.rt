@@ -2,6 +2,8 @@
 // `height` lines of `width` lanes each, and every lane is swept at once, so that the inner loops are plain counted ones.
 use crate::tally::Met;
 use crate::tally::Tally;
+use crate::tally::chosen;
+use crate::tally::counted;
 use crate::tally::greater;
 use crate::tally::lesser;
 ghost use mathlib.Core.Path.{_≡_};
@@ -52,8 +54,8 @@ fn meet_lanes(
     let mut x = 0;
     while x < lanes {
         let met = extreme(t, ws[a + x], ws[b + x], side);
-        t = met.tally;
-        ws[to + x] = met.value;
+        t = counted(met);
+        ws[to + x] = chosen(met);
         x += 1;
     }
     t

@@ -11,12 +11,26 @@ pub struct Tally {
 
 // The extreme of two samples, and the tally with that comparison in it.
 pub struct Met {
-    pub tally: Tally,
-    pub value: u8,
+    tally: Tally,
+    value: u8,
+}
+
+// The tally with that comparison in it.
+pub(crate) fn counted(met: Met) -> Tally
+    ensures { λ r. ⌜ r .comparisons ≡ met .tally .comparisons ⌝ }
+{
+    met.tally
+}
+
+// The extreme.
+pub(crate) fn chosen(met: Met) -> u8
+    ensures { λ r. ⌜ r ≡ met .value ⌝ }
+{
+    met.value
 }
 
 // A tally of no comparisons.
-pub fn start() -> Tally
+pub(crate) fn start() -> Tally
     ensures { λ r. ⌜ r .comparisons ≡ 0 ⌝ }
 {
     Tally { comparisons: 0 }

@@ -9,9 +9,10 @@ ghost use mathlib.Core.Path.{_≡_};
 ghost use Prim.Native.Nat.{ℕ, _+_, _-_, _≤_, _<_, min};
 ghost use lib.ListN.{length, getD};
 ghost use Rattle.image.specs.Layout.{Kept, sideLimit};
+ghost use Rattle.image.specs.Plane.{picture};
 ghost use Rattle.imgproc.specs.Refusals.{sauvolaSettings, settingsAndRoom, tableEntries};
 ghost use Rattle.imgproc.specs.WholeRoot.{wholeRoot};
-ghost use Rattle.imgproc.specs.Tables.{picture, InRange, Ready, Sane};
+ghost use Rattle.imgproc.specs.Tables.{InRange, Ready, Sane};
 ghost use Rattle.imgproc.specs.Sauvola.{sauvolaDefaults, binarizedNumber, spread, threshold, thresholdAt, verdict, binarisedInto, Binarizes};
 
 // Settings of a binarisation. k is given in thousandths.
@@ -261,7 +262,20 @@ pub fn sauvola_into(
     config: SauvolaConfig,
     workspace: &mut [u64],
 ) -> Binarized
-    ensures { λ r. ⌜ Binarizes (now (src .entry)) «src_geometry» (now (dst .entry)) «dst_geometry» config (now (workspace .entry)) r (now (dst .exit)) (now (workspace .exit)) ⌝ }
+    ensures { λ r.
+        ⌜
+        Binarizes
+        (record {
+          src = now (src .entry);
+          source = «src_geometry»;
+          dst = now (dst .entry);
+          target = «dst_geometry»;
+          settings = config;
+          workspace = now (workspace .entry);
+        })
+        r
+        (record { dst = now (dst .exit); workspace = now (workspace .exit) })
+        ⌝ }
 {
     let layout = image::validate_layout(src.len(), src_geometry);
     let Layout::Valid(g) = layout else {

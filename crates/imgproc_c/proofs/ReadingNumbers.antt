@@ -11,7 +11,6 @@ use lib.IntN.{ℤ}
 use lib.ListN.{length}
 use lib.Ieee.{Float, lt}
 use Rattle.image.specs.declared.Geometry.{Geometry}
-use Rattle.image.specs.Plane.{packed}
 use Rattle.imgproc.specs.declared.ImgProcError.the-variants.{InvalidConfiguration, InvalidKernel}
 use Rattle.imgproc.specs.declared.Check.{Check}
 use Rattle.imgproc.specs.declared.Check.the-variants.{Accepted, Refused}
@@ -22,7 +21,7 @@ use Rattle.imgproc.specs.declared.reading.ReadingConfig.{ReadingConfig}
 use Rattle.imgproc.specs.declared.reading.ReadingCounts.{ReadingCounts}
 use Rattle.imgproc.specs.declared.reading.Read.{Read}
 use Rattle.imgproc.specs.GridCalls.{gridSettingsCheck}
-use Rattle.imgproc.specs.Reading.{readingOf, readingCheck, readingRoom, readBy, Reads}
+use Rattle.imgproc.specs.Reading.{ReadingLent, ReadingLeft, readingCheckOf, countsOf, readingRoom, readBy, Reads}
 use Rattle.imgproc.specs.Refusals.{_then_, refusedIf, pairCheck, badKernel, divisionSettings, sauvolaSettings}
 use Rattle.imgproc_c.specs.Operators.{checkNumber, numberOut}
 use Rattle.imgproc_c.specs.Grid.{methodOf, methodCheck, settings}
@@ -45,25 +44,24 @@ skipped-of : (c : Check) (r : ReadingCounts) (held : ℕ) → skippedOut (readBy
 skipped-of Accepted r held = refl
 skipped-of (Refused e) r held = refl
 
-comparisons-of : (c : Check) (r : ReadingCounts) (held : ℕ) → comparisonsOut (readBy c r) held ≡ numberOut c (r .comparisons) held
+comparisons-of : (c : Check) (r : ReadingCounts) (held : ℕ) → comparisonsOut (readBy c r) held ≡ numberOut c (r .tally .comparisons) held
 comparisons-of Accepted r held = refl
 comparisons-of (Refused e) r held = refl
 
-module _ (src : List ℕ) (source : Geometry) (dst : List ℕ) (target : Geometry) (s : ReadingConfig) (bytes words : List ℕ) (dark light skipped comparisons : ℕ) {answer : Read} {number : ℕ} {dst′ bytes′ words′ : List ℕ} {dark′ light′ skipped′ comparisons′ : ℕ} where
-  reads-by : Reads src source dst target s bytes words answer dst′ bytes′ words′ → ReadOut answer dark light skipped comparisons number dark′ light′ skipped′ comparisons′ → ReadsBy (readingCheck (length src) source (length dst) target s (length bytes) (length words)) src source dst target s bytes words dark light skipped comparisons number dst′ bytes′ words′ dark′ light′ skipped′ comparisons′
-  reads-by b o =
-      let check = readingCheck (length src) source (length dst) target s (length bytes) (length words) in
-      let r = readingOf s (source .width) (source .height) (packed src (source .width) (source .height) (source .stride)) in
-      record {
-        answers = o .answers ∙ ap readNumber (b .answers) ∙ read-number check r;
-        dark-out = o .dark-out ∙ ap (λ (a : Read). darkOut a dark) (b .answers) ∙ dark-of check r dark;
-        light-out = o .light-out ∙ ap (λ (a : Read). lightOut a light) (b .answers) ∙ light-of check r light;
-        skipped-out = o .skipped-out ∙ ap (λ (a : Read). skippedOut a skipped) (b .answers) ∙ skipped-of check r skipped;
-        comparisons-out = o .comparisons-out ∙ ap (λ (a : Read). comparisonsOut a comparisons) (b .answers) ∙ comparisons-of check r comparisons;
-        leaves = b .leaves;
-        bytes-left = b .bytes-left;
-        words-left = b .words-left;
-      }
+reads-by : {lent : ReadingLent} {held : ReadingCounts} {answer : Read} {number : ℕ} {left : ReadingLeft} {held′ : ReadingCounts} → Reads lent answer left → ReadOut answer held number held′ → ReadsBy (readingCheckOf lent) lent held number left held′
+reads-by {lent = lent} {held = held} b o =
+    let check = readingCheckOf lent in
+    let r = countsOf lent in
+    record {
+      answers = o .answers ∙ ap readNumber (b .answers) ∙ read-number check r;
+      dark-out = o .dark-out ∙ ap (λ (a : Read). darkOut a (held .dark)) (b .answers) ∙ dark-of check r (held .dark);
+      light-out = o .light-out ∙ ap (λ (a : Read). lightOut a (held .light)) (b .answers) ∙ light-of check r (held .light);
+      skipped-out = o .skipped-out ∙ ap (λ (a : Read). skippedOut a (held .skipped)) (b .answers) ∙ skipped-of check r (held .skipped);
+      comparisons-out = o .comparisons-out ∙ ap (λ (a : Read). comparisonsOut a (held .tally .comparisons)) (b .answers) ∙ comparisons-of check r (held .tally .comparisons);
+      leaves = b .leaves;
+      bytes-left = b .bytes-left;
+      words-left = b .words-left;
+    }
 
 -- settings that are refused, whatever the tile sides are
 out-of-range : (a b : Bool) (c : Check) → (refusedIf (a || b || true) InvalidConfiguration then c) ≡ (Refused InvalidConfiguration)
@@ -80,20 +78,21 @@ module _ (tw th radius : ℕ) (offset : ℤ) (floor : ℕ) (k range : Float) (c 
   method-check (suc (suc n)) = out-of-range (eqb tw 0) (eqb th 0) c
 
 -- a reading by the method of a number; the offset goes through its 16 bits
-module _ (src : List ℕ) (source : Geometry) (dst : List ℕ) (target : Geometry) (d : BackgroundDivideConfig) (m tw th radius : ℕ) (offset : ℤ) (fits : SFits w16 offset) (floor n : ℕ) (k range : Float) {used : TileThresholdMethod} (is : used ≡ methodOf n k range) (v : SauvolaConfig) where
-  abbrev own-settings : ReadingConfig
-  own-settings = reading d m (settings tw th radius offset floor (methodOf n k range)) v
+abbrev lentWith : List ℕ → Geometry → List ℕ → Geometry → ReadingConfig → List ℕ → List ℕ → ReadingLent
+lentWith src source dst target s bytes words = record { src = src; source = source; dst = dst; target = target; settings = s; bytes = bytes; words = words }
 
-  same : reading d m (settings tw th radius (toZ w16 (ofZ w16 offset)) floor used) v ≡ own-settings
-  same = ap (λ (z : ℤ). reading d m (settings tw th radius z floor used) v) (toZ-ofZ w16 offset fits) ∙ ap (λ (t : TileThresholdMethod). reading d m (settings tw th radius offset floor t) v) is
-
-  checked : (srcLen dstLen bytes words : ℕ) → readingCheck srcLen source dstLen target own-settings bytes words ≡ readingNumberCheck n srcLen source dstLen target own-settings bytes words
-  checked srcLen dstLen bytes words = ap
-      (λ (c : Check). pairCheck srcLen source dstLen target then (divisionSettings d then refusedIf (badKernel m) InvalidKernel then c) then readingRoom source own-settings bytes words)
-      (method-check tw th radius offset floor k range (sauvolaSettings v) n)
-
-  module _ (bytes words : List ℕ) (dark light skipped comparisons : ℕ) {answer : Read} {number : ℕ} {dst′ bytes′ words′ : List ℕ} {dark′ light′ skipped′ comparisons′ : ℕ} where
-    pub reads : Reads src source dst target (reading d m (settings tw th radius (toZ w16 (ofZ w16 offset)) floor used) v) bytes words answer dst′ bytes′ words′ → ReadOut answer dark light skipped comparisons number dark′ light′ skipped′ comparisons′ → ReadsNumber n src source dst target (reading d m (settings tw th radius offset floor (methodOf n k range)) v) bytes words dark light skipped comparisons number dst′ bytes′ words′ dark′ light′ skipped′ comparisons′
-    reads b o =
-        let own = subst (λ (s : ReadingConfig). Reads src source dst target s bytes words answer dst′ bytes′ words′) same b in
-        subst (λ (c : Check). ReadsBy c src source dst target own-settings bytes words dark light skipped comparisons number dst′ bytes′ words′ dark′ light′ skipped′ comparisons′) (checked (length src) (length dst) (length bytes) (length words)) (reads-by src source dst target own-settings bytes words dark light skipped comparisons own o)
+pub reads :
+    {src dst bytes words : List ℕ} {source target : Geometry} {d : BackgroundDivideConfig} {m tw th radius : ℕ} {offset : ℤ} {floor : ℕ} {v : SauvolaConfig} {used : TileThresholdMethod}
+    {held : ReadingCounts} {answer : Read} {number : ℕ} {left : ReadingLeft} {held′ : ReadingCounts} (n : ℕ) (k range : Float)
+    → SFits w16 offset
+    → used ≡ methodOf n k range
+    → Reads (lentWith src source dst target (reading d m (settings tw th radius (toZ w16 (ofZ w16 offset)) floor used) v) bytes words) answer left
+    → ReadOut answer held number held′
+    → ReadsNumber n (lentWith src source dst target (reading d m (settings tw th radius offset floor (methodOf n k range)) v) bytes words) held number left held′
+reads {src} {dst} {bytes} {words} {source} {target} {d} {m} {tw} {th} {radius} {offset} {floor} {v} {used} {held} {answer} {number} {left} {held′} n k range fits is b o =
+    let lent : ℤ → TileThresholdMethod → ReadingLent = λ z t. lentWith src source dst target (reading d m (settings tw th radius z floor t) v) bytes words in
+    let own = subst (λ (t : TileThresholdMethod). Reads (lent offset t) answer left) is (subst (λ (z : ℤ). Reads (lent z used) answer left) (toZ-ofZ w16 offset fits) b) in
+    let checked = ap
+    (λ (c : Check). pairCheck (length src) source (length dst) target then (divisionSettings d then refusedIf (badKernel m) InvalidKernel then c) then readingRoom source (lent offset (methodOf n k range) .settings) (length bytes) (length words))
+    (method-check tw th radius offset floor k range (sauvolaSettings v) n) in
+    subst (λ (c : Check). ReadsBy c (lent offset (methodOf n k range)) held number left held′) checked (reads-by own o)

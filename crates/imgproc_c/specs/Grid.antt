@@ -9,7 +9,7 @@ use lib.Ieee.{Float}
 use lib.ListN.{length}
 use Rattle.image.specs.declared.Geometry.{Geometry}
 use Rattle.image.specs.Layout.{layoutOf}
-use Rattle.image.specs.Plane.{packed, overwritten}
+use Rattle.image.specs.Plane.{overwritten, picture}
 use Rattle.imgproc.specs.declared.ImgProcError.the-variants.{InvalidConfiguration}
 use Rattle.imgproc.specs.declared.Check.{Check}
 use Rattle.imgproc.specs.declared.Check.the-variants.{Accepted, Refused}
@@ -61,8 +61,8 @@ pub record BuildsBy (c : Check) (src : List ℕ) (s : Geometry) (g : TileThresho
   pub answers : answer ≡ checkNumber c
   pub tiles-x : x′ ≡ numberOut c (tilesX g (s .width)) x
   pub tiles-y : y′ ≡ numberOut c (tilesY g (s .height)) y
-  pub thresholds-left : th′ ≡ leftBy c (overwritten 0 (thresholds g (s .width) (s .height) (packed src (s .width) (s .height) (s .stride))) th) th
-  pub skips-left : sk′ ≡ leftBy c (overwritten 0 (skips g (s .width) (s .height) (packed src (s .width) (s .height) (s .stride))) sk) sk
+  pub thresholds-left : th′ ≡ leftBy c (overwritten 0 (thresholds g (s .width) (s .height) (picture src s)) th) th
+  pub skips-left : sk′ ≡ leftBy c (overwritten 0 (skips g (s .width) (s .height) (picture src s)) sk) sk
   pub workspace-left : Lent c ws ws′
 
 -- a grid built by the method of a number

@@ -2,9 +2,7 @@
 use Prim.Native.Nat.{ℕ, _*_}
 use mathlib.Core.Path.{_≡_}
 use mathlib.Core.List.{List}
-use lib.ListN.{length}
 use Rattle.image.specs.declared.Geometry.{Geometry}
-use Rattle.image.specs.Plane.{packed, painted}
 use Rattle.imgproc.specs.declared.Check.{Check}
 use Rattle.imgproc.specs.declared.Check.the-variants.{Accepted, Refused}
 use Rattle.imgproc.specs.declared.morphology.Compared.{Compared}
@@ -12,9 +10,10 @@ use Rattle.imgproc.specs.declared.morphology.Compared.the-variants.{Comparisons
 use Rattle.imgproc.specs.declared.illumination.BackgroundDivideConfig.{BackgroundDivideConfig}
 use Rattle.imgproc.specs.declared.threshold.SauvolaConfig.{SauvolaConfig}
 use Rattle.imgproc.specs.Reach.{sweepWalks}
-use Rattle.imgproc.specs.Refusals.{errorNumber, morphologyCheck, divisionCheck, sauvolaCheck, leftBy, Lent}
+use Rattle.imgproc.specs.Refusals.{errorNumber, kernelAndRoom, elementAndRoom, settingsAndRoom, leftBy, Lent}
+use Rattle.imgproc.specs.Calls.{Loan, Left, checkOf, madeOf}
 use Rattle.imgproc.specs.Division.{divided}
-use Rattle.imgproc.specs.Sauvola.{binarisedInto}
+use Rattle.imgproc.specs.Sauvola.{binarised}
 
 -- the settings of flat numbers
 abbrev pub division : ℕ → ℕ → ℕ → BackgroundDivideConfig
@@ -37,40 +36,35 @@ numberOut (Refused e) value held = held
 abbrev pub twoSweepWalks : ℕ → ℕ → ℕ → ℕ
 twoSweepWalks k w h = 2 * sweepWalks k w h
 
--- a morphology call, by the packed picture that it makes and its comparisons
-pub record AppliesNumber (made : ℕ → ℕ → ℕ → List ℕ → List ℕ) (walks : ℕ → ℕ → ℕ → ℕ) (src : List ℕ) (source : Geometry) (dst : List ℕ) (target : Geometry) (k : ℕ) (ws : List ℕ) (held answer : ℕ) (dst′ ws′ : List ℕ) (held′ : ℕ) : Type 0 where
-  pub answers : answer ≡ checkNumber (morphologyCheck (length src) source (length dst) target k (length ws))
-  pub counts : held′ ≡ numberOut (morphologyCheck (length src) source (length dst) target k (length ws)) (walks k (source .width) (source .height)) held
-  pub leaves : dst′
-      ≡ leftBy (morphologyCheck (length src) source (length dst) target k (length ws))
-      (painted (made k (source .width) (source .height) (packed src (source .width) (source .height) (source .stride))) (source .width) (source .height) (target .stride) dst)
-      dst
-  pub workspace : Lent (morphologyCheck (length src) source (length dst) target k (length ws)) ws ws′
+-- a call that counts, by its own check, its comparisons and the packed picture that it makes
+pub record CountsNumber {S : Type 0} (own : S → Geometry → ℕ → Check) (walks : S → ℕ → ℕ → ℕ) (make : S → ℕ → ℕ → List ℕ → List ℕ) (lent : Loan S) (held answer : ℕ) (left : Left) (held′ : ℕ) : Type 0 where
+  pub answers : answer ≡ checkNumber (checkOf own lent)
+  pub counts : held′ ≡ numberOut (checkOf own lent) (walks (lent .settings) (lent .source .width) (lent .source .height)) held
+  pub leaves : left .dst ≡ leftBy (checkOf own lent) (madeOf make lent) (lent .dst)
+  pub keeps : Lent (checkOf own lent) (lent .workspace) (left .workspace)
+
+-- a morphology call
+abbrev pub AppliesNumber : (ℕ → ℕ → ℕ → List ℕ → List ℕ) → (ℕ → ℕ → ℕ → ℕ) → Loan ℕ → ℕ → ℕ → Left → ℕ → Type 0
+AppliesNumber make walks = CountsNumber kernelAndRoom walks make
 
 -- a division by the background
-pub record DividesNumber (src : List ℕ) (source : Geometry) (dst : List ℕ) (target : Geometry) (d : BackgroundDivideConfig) (ws : List ℕ) (held answer : ℕ) (dst′ ws′ : List ℕ) (held′ : ℕ) : Type 0 where
-  pub answers : answer ≡ checkNumber (divisionCheck (length src) source (length dst) target d (length ws))
-  pub counts : held′ ≡ numberOut (divisionCheck (length src) source (length dst) target d (length ws)) (twoSweepWalks (d .«structuring_element») (source .width) (source .height)) held
-  pub leaves : dst′
-      ≡ leftBy (divisionCheck (length src) source (length dst) target d (length ws))
-      (painted (divided d (source .width) (source .height) (packed src (source .width) (source .height) (source .stride))) (source .width) (source .height) (target .stride) dst)
-      dst
-  pub workspace : Lent (divisionCheck (length src) source (length dst) target d (length ws)) ws ws′
+abbrev pub DividesNumber : Loan BackgroundDivideConfig → ℕ → ℕ → Left → ℕ → Type 0
+DividesNumber = CountsNumber elementAndRoom (λ d. twoSweepWalks (d .«structuring_element»)) divided
 
 -- a binarisation
-pub record BinarizesNumber (src : List ℕ) (source : Geometry) (dst : List ℕ) (target : Geometry) (config : SauvolaConfig) (ws : List ℕ) (answer : ℕ) (dst′ ws′ : List ℕ) : Type 0 where
-  pub answers : answer ≡ checkNumber (sauvolaCheck (length src) source (length dst) target config (length ws))
-  pub leaves : dst′ ≡ leftBy (sauvolaCheck (length src) source (length dst) target config (length ws)) (binarisedInto config src source dst target) dst
-  pub workspace : Lent (sauvolaCheck (length src) source (length dst) target config (length ws)) ws ws′
+pub record BinarizesNumber (lent : Loan SauvolaConfig) (answer : ℕ) (left : Left) : Type 0 where
+  pub answers : answer ≡ checkNumber (checkOf settingsAndRoom lent)
+  pub leaves : left .dst ≡ leftBy (checkOf settingsAndRoom lent) (madeOf binarised lent) (lent .dst)
+  pub keeps : Lent (checkOf settingsAndRoom lent) (lent .workspace) (left .workspace)
 
 -- ---- inside: an answer that counts, taken apart
 
 abbrev pub comparedNumber : Compared → ℕ
-comparedNumber (Comparisons n) = 0
+comparedNumber (Comparisons t) = 0
 comparedNumber (Compared·Refused e) = errorNumber e
 
 abbrev pub comparedOut : Compared → ℕ → ℕ
-comparedOut (Comparisons n) held = n
+comparedOut (Comparisons t) held = t .comparisons
 comparedOut (Compared·Refused e) held = held
 
 pub record Counted (answer : Compared) (held number held′ : ℕ) : Type 0 where

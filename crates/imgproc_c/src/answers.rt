@@ -4,6 +4,7 @@ use imgproc::grid::TileSkip;
 use imgproc::grid::TileThreshold;
 use imgproc::morphology::Compared;
 use imgproc::reading::Read;
+use imgproc::tally;
 ghost use Rattle.imgproc_c.specs.Operators.{Counted};
 ghost use Rattle.imgproc_c.specs.Grid.{Laid, ThresholdAsked, SkipAsked};
 ghost use Rattle.imgproc_c.specs.Reading.{ReadOut};
@@ -13,8 +14,8 @@ pub(crate) fn counted(answer: Compared, comparisons: &mut u64) -> u32
     ensures { λ r. ⌜ Counted answer (now (comparisons .entry)) r (now (comparisons .exit)) ⌝ }
 {
     match answer {
-        Compared::Comparisons(count) => {
-            *comparisons = count;
+        Compared::Comparisons(made) => {
+            *comparisons = tally::comparisons(made);
             0
         }
         Compared::Refused(error) => imgproc::number(error),
@@ -73,14 +74,20 @@ pub(crate) fn read(
     skipped: &mut u64,
     comparisons: &mut u64,
 ) -> u32
-    ensures { λ r. ⌜ ReadOut answer (now (dark .entry)) (now (light .entry)) (now (skipped .entry)) (now (comparisons .entry)) r (now (dark .exit)) (now (light .exit)) (now (skipped .exit)) (now (comparisons .exit)) ⌝ }
+    ensures { λ r.
+        ⌜
+        ReadOut answer
+        (record { dark = now (dark .entry); light = now (light .entry); skipped = now (skipped .entry); tally = record { comparisons = now (comparisons .entry) } })
+        r
+        (record { dark = now (dark .exit); light = now (light .exit); skipped = now (skipped .exit); tally = record { comparisons = now (comparisons .exit) } })
+        ⌝ }
 {
     match answer {
         Read::Counts(counts) => {
             *dark = counts.dark;
             *light = counts.light;
             *skipped = counts.skipped;
-            *comparisons = counts.comparisons;
+            *comparisons = tally::comparisons(counts.tally);
             0
         }
         Read::Refused(error) => imgproc::number(error),

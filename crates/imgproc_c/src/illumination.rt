@@ -21,7 +21,22 @@ pub extern "C" fn imgproc_background_divide_into(
     workspace: &mut [u8],
     comparisons: &mut u64,
 ) -> u32
-    ensures { λ r. ⌜ DividesNumber (now (src .entry)) (geometry «src_width» «src_height» «src_stride») (now (dst .entry)) (geometry «dst_width» «dst_height» «dst_stride») (division «structuring_element» «target_luma» «denominator_floor») (now (workspace .entry)) (now (comparisons .entry)) r (now (dst .exit)) (now (workspace .exit)) (now (comparisons .exit)) ⌝ }
+    ensures { λ r.
+        ⌜
+        DividesNumber
+        (record {
+          src = now (src .entry);
+          source = geometry «src_width» «src_height» «src_stride»;
+          dst = now (dst .entry);
+          target = geometry «dst_width» «dst_height» «dst_stride»;
+          settings = division «structuring_element» «target_luma» «denominator_floor»;
+          workspace = now (workspace .entry);
+        })
+        (now (comparisons .entry))
+        r
+        (record { dst = now (dst .exit); workspace = now (workspace .exit) })
+        (now (comparisons .exit))
+        ⌝ }
 {
     let source = Geometry {
         width: src_width,

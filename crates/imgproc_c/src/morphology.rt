@@ -20,7 +20,22 @@ pub extern "C" fn imgproc_grayscale_erode_into(
     workspace: &mut [u8],
     comparisons: &mut u64,
 ) -> u32
-    ensures { λ r. ⌜ AppliesNumber eroded sweepWalks (now (src .entry)) (geometry «src_width» «src_height» «src_stride») (now (dst .entry)) (geometry «dst_width» «dst_height» «dst_stride») «kernel_size» (now (workspace .entry)) (now (comparisons .entry)) r (now (dst .exit)) (now (workspace .exit)) (now (comparisons .exit)) ⌝ }
+    ensures { λ r.
+        ⌜
+        AppliesNumber eroded sweepWalks
+        (record {
+          src = now (src .entry);
+          source = geometry «src_width» «src_height» «src_stride»;
+          dst = now (dst .entry);
+          target = geometry «dst_width» «dst_height» «dst_stride»;
+          settings = «kernel_size»;
+          workspace = now (workspace .entry);
+        })
+        (now (comparisons .entry))
+        r
+        (record { dst = now (dst .exit); workspace = now (workspace .exit) })
+        (now (comparisons .exit))
+        ⌝ }
 {
     let source = Geometry {
         width: src_width,
@@ -57,7 +72,22 @@ pub extern "C" fn imgproc_grayscale_dilate_into(
     workspace: &mut [u8],
     comparisons: &mut u64,
 ) -> u32
-    ensures { λ r. ⌜ AppliesNumber dilated sweepWalks (now (src .entry)) (geometry «src_width» «src_height» «src_stride») (now (dst .entry)) (geometry «dst_width» «dst_height» «dst_stride») «kernel_size» (now (workspace .entry)) (now (comparisons .entry)) r (now (dst .exit)) (now (workspace .exit)) (now (comparisons .exit)) ⌝ }
+    ensures { λ r.
+        ⌜
+        AppliesNumber dilated sweepWalks
+        (record {
+          src = now (src .entry);
+          source = geometry «src_width» «src_height» «src_stride»;
+          dst = now (dst .entry);
+          target = geometry «dst_width» «dst_height» «dst_stride»;
+          settings = «kernel_size»;
+          workspace = now (workspace .entry);
+        })
+        (now (comparisons .entry))
+        r
+        (record { dst = now (dst .exit); workspace = now (workspace .exit) })
+        (now (comparisons .exit))
+        ⌝ }
 {
     let source = Geometry {
         width: src_width,
@@ -94,7 +124,22 @@ pub extern "C" fn imgproc_grayscale_open_into(
     workspace: &mut [u8],
     comparisons: &mut u64,
 ) -> u32
-    ensures { λ r. ⌜ AppliesNumber opened twoSweepWalks (now (src .entry)) (geometry «src_width» «src_height» «src_stride») (now (dst .entry)) (geometry «dst_width» «dst_height» «dst_stride») «kernel_size» (now (workspace .entry)) (now (comparisons .entry)) r (now (dst .exit)) (now (workspace .exit)) (now (comparisons .exit)) ⌝ }
+    ensures { λ r.
+        ⌜
+        AppliesNumber opened twoSweepWalks
+        (record {
+          src = now (src .entry);
+          source = geometry «src_width» «src_height» «src_stride»;
+          dst = now (dst .entry);
+          target = geometry «dst_width» «dst_height» «dst_stride»;
+          settings = «kernel_size»;
+          workspace = now (workspace .entry);
+        })
+        (now (comparisons .entry))
+        r
+        (record { dst = now (dst .exit); workspace = now (workspace .exit) })
+        (now (comparisons .exit))
+        ⌝ }
 {
     let source = Geometry {
         width: src_width,
@@ -131,7 +176,22 @@ pub extern "C" fn imgproc_grayscale_close_into(
     workspace: &mut [u8],
     comparisons: &mut u64,
 ) -> u32
-    ensures { λ r. ⌜ AppliesNumber closed twoSweepWalks (now (src .entry)) (geometry «src_width» «src_height» «src_stride») (now (dst .entry)) (geometry «dst_width» «dst_height» «dst_stride») «kernel_size» (now (workspace .entry)) (now (comparisons .entry)) r (now (dst .exit)) (now (workspace .exit)) (now (comparisons .exit)) ⌝ }
+    ensures { λ r.
+        ⌜
+        AppliesNumber closed twoSweepWalks
+        (record {
+          src = now (src .entry);
+          source = geometry «src_width» «src_height» «src_stride»;
+          dst = now (dst .entry);
+          target = geometry «dst_width» «dst_height» «dst_stride»;
+          settings = «kernel_size»;
+          workspace = now (workspace .entry);
+        })
+        (now (comparisons .entry))
+        r
+        (record { dst = now (dst .exit); workspace = now (workspace .exit) })
+        (now (comparisons .exit))
+        ⌝ }
 {
     let source = Geometry {
         width: src_width,

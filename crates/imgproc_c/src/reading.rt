@@ -45,7 +45,27 @@ pub extern "C" fn imgproc_reading(
     skipped: &mut u64,
     comparisons: &mut u64,
 ) -> u32
-    ensures { λ r. ⌜ ReadsNumber method (now (src .entry)) (geometry «src_width» «src_height» «src_stride») (now (dst .entry)) (geometry «dst_width» «dst_height» «dst_stride») (reading (division «structuring_element» «target_luma» «denominator_floor») «opening_kernel» (settings «tile_width» «tile_height» «neighborhood_radius» «threshold_offset» «contrast_floor» (methodOf method k «dynamic_range»)) (sauvola radius «k_milli» «sauvola_dynamic_range» «dark_value» «light_value»)) (now (bytes .entry)) (now (words .entry)) (now (dark .entry)) (now (light .entry)) (now (skipped .entry)) (now (comparisons .entry)) r (now (dst .exit)) (now (bytes .exit)) (now (words .exit)) (now (dark .exit)) (now (light .exit)) (now (skipped .exit)) (now (comparisons .exit)) ⌝ }
+    ensures { λ r.
+        ⌜
+        ReadsNumber method
+        (record {
+          src = now (src .entry);
+          source = geometry «src_width» «src_height» «src_stride»;
+          dst = now (dst .entry);
+          target = geometry «dst_width» «dst_height» «dst_stride»;
+          settings = reading
+              (division «structuring_element» «target_luma» «denominator_floor»)
+              «opening_kernel»
+              (settings «tile_width» «tile_height» «neighborhood_radius» «threshold_offset» «contrast_floor» (methodOf method k «dynamic_range»))
+              (sauvola radius «k_milli» «sauvola_dynamic_range» «dark_value» «light_value»);
+          bytes = now (bytes .entry);
+          words = now (words .entry);
+        })
+        (record { dark = now (dark .entry); light = now (light .entry); skipped = now (skipped .entry); tally = record { comparisons = now (comparisons .entry) } })
+        r
+        (record { dst = now (dst .exit); bytes = now (bytes .exit); words = now (words .exit) })
+        (record { dark = now (dark .exit); light = now (light .exit); skipped = now (skipped .exit); tally = record { comparisons = now (comparisons .exit) } })
+        ⌝ }
 {
     let source = Geometry {
         width: src_width,

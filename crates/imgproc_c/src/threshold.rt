@@ -21,7 +21,20 @@ pub extern "C" fn imgproc_sauvola_into(
     light_value: u8,
     workspace: &mut [u64],
 ) -> u32
-    ensures { λ r. ⌜ BinarizesNumber (now (src .entry)) (geometry «src_width» «src_height» «src_stride») (now (dst .entry)) (geometry «dst_width» «dst_height» «dst_stride») (sauvola radius «k_milli» «dynamic_range» «dark_value» «light_value») (now (workspace .entry)) r (now (dst .exit)) (now (workspace .exit)) ⌝ }
+    ensures { λ r.
+        ⌜
+        BinarizesNumber
+        (record {
+          src = now (src .entry);
+          source = geometry «src_width» «src_height» «src_stride»;
+          dst = now (dst .entry);
+          target = geometry «dst_width» «dst_height» «dst_stride»;
+          settings = sauvola radius «k_milli» «dynamic_range» «dark_value» «light_value»;
+          workspace = now (workspace .entry);
+        })
+        r
+        (record { dst = now (dst .exit); workspace = now (workspace .exit) })
+        ⌝ }
 {
     let source = Geometry {
         width: src_width,

@@ -11,6 +11,7 @@ use imgproc::morphology;
 use imgproc::morphology::Compared;
 use imgproc::reading;
 use imgproc::reading::Read;
+use imgproc::tally;
 use imgproc::threshold;
 use imgproc::threshold::Binarized;
 
@@ -43,7 +44,7 @@ fn accepted(counts: Counts) -> Answer {
 
 fn compared(answer: Compared) -> Answer {
     match answer {
-        Compared::Comparisons(comparisons) => accepted(cases::compared(comparisons as usize)),
+        Compared::Comparisons(made) => accepted(cases::compared(tally::comparisons(made) as usize)),
         Compared::Refused(error) => refused(error),
     }
 }
@@ -61,7 +62,7 @@ fn read(answer: Read) -> Answer {
             dark: counts.dark as usize,
             light: counts.light as usize,
             skipped: counts.skipped as usize,
-            comparisons: counts.comparisons as usize,
+            comparisons: tally::comparisons(counts.tally) as usize,
         }),
         Read::Refused(error) => refused(error),
     }

@@ -21,9 +21,6 @@ flatten-requires c κs =
 unpack-requires : tie.Need-unpack-requires
 unpack-requires c κs = search needs
 
-comparisons-requires : tie.Need-comparisons-requires
-comparisons-requires c κs = search needs
-
 same-length : tie.Need-same-length
 same-length c = search needs
 
@@ -32,13 +29,13 @@ same-length-2 c = search needs
 
 returns : tie.Need-returns
 returns c =
-    let unpack = c .before .before .before in
+    let unpack = c .before .before in
     let flat = unpack .before .before .before .before .before in
     let begin = flat .before .before in
     let entry = begin .before .before .before .before .before in
     let a = entry .args in
     picture-divided (now (a .src)) (a .src-geometry) (now (a .dst)) (a .dst-geometry) (a .config) (now (a .workspace)) (entry .pre) (begin .start .result) (begin .start .ensures)
-    (flat .flatten .result) (flat .flatten .last .1 .1 .1 .1 .0) (flat .flatten .ensures) (c .comparisons .result) (c .comparisons .ensures) (unpack .unpack .ensures)
+    (flat .flatten .result) (flat .flatten .last .1 .1 .1 .1 .0) (flat .flatten .ensures) (unpack .unpack .ensures)
 
 pub divide-picture-spec : {M : Type 1} → statement M
 divide-picture-spec =
@@ -48,7 +45,6 @@ divide-picture-spec =
     start-requires
     flatten-requires
     unpack-requires
-    comparisons-requires
     same-length
     same-length-2
     returns)

@@ -36,9 +36,6 @@ judge-picture-requires c κs =
       (e .pre .to, (sym (e .pre .wide), sym (e .pre .high))),
     )
 
-comparisons-requires : tie.Need-comparisons-requires
-comparisons-requires c κs = search needs
-
 same-length : tie.Need-same-length
 same-length c = search needs
 
@@ -50,14 +47,14 @@ same-length-3 c = search needs
 
 returns : tie.Need-returns
 returns c =
-    let j = c .before .before .before .before .before in
+    let j = c .before .before .before .before in
     let m = j .before .before .before .before .before .before .before .before in
     let f = m .before .before .before .before .before in
     let b = f .before .before in
     let e = entry b in
     let a = e .args in
     read-done (now (a .src)) (a .src-geometry) (now (a .dst)) (a .dst-geometry) (a .config) (now (a .bytes)) (now (a .words)) (e .pre) (b .start .result) (b .start .ensures) (f .flatten-and-open .result) (f .flatten-and-open .last .1 .1 .1 .1 .0) (f .flatten-and-open .ensures) (m .mark-tiles .last .1 .1 .0) (m .mark-tiles .last .1 .1 .1 .0) (m .mark-tiles .ensures)
-    (c .comparisons .result) (c .comparisons .ensures) (j .judge-picture .ensures) (j .judge-picture .kept .1 .1 .1 .0)
+    (j .judge-picture .ensures) (j .judge-picture .kept .1 .1 .1 .0)
 
 pub read-picture-spec : {M : Type 1} → statement M
 read-picture-spec =
@@ -67,7 +64,6 @@ read-picture-spec =
     flatten-and-open-requires
     mark-tiles-requires
     judge-picture-requires
-    comparisons-requires
     same-length
     same-length-2
     same-length-3

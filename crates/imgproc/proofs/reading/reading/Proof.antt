@@ -1,24 +1,26 @@
 -- `reading` meets its contract: each way out is one law of the check. Assumes nothing.
 use borrow.Author.Needs.{needs}
-use mathlib.Core.Path.{sym, _∙_, ap}
-use denote.Ref.{now}
+use mathlib.Core.Path.{sym, _∙_}
 use lib.ListN.{length}
-use Prim.Native.Nat.{ℕ}
-use Rattle.image.specs.declared.Geometry.{Geometry}
-use Rattle.imgproc.specs.declared.reading.ReadingConfig.{ReadingConfig}
-use Rattle.imgproc.specs.declared.Check.{Check}
-use Rattle.imgproc.specs.Refusals.{_then_}
-use Rattle.imgproc.specs.Reading.{readingSettings, readingRoom}
-use Rattle.imgproc.specs.RefusalLaws.{then-refused, then-accepted}
-use Rattle.imgproc.proofs.CheckLaws.{kept-here}
-use Rattle.imgproc.proofs.Layouts.{taken-same, pair-source, pair-target, pair-wide, pair-high, pair-same}
+use denote.Ref.{now}
+use Rattle.imgproc.specs.RefusalLaws.{then-accepted}
+use Rattle.imgproc.proofs.WaysOut.{Pair, pair-of, source-kept, target-kept, ways}
 use Rattle.imgproc.proofs.ReadingWays.{says, room-says, refused, done}
 use Rattle.imgproc.proofs.reading.reading.Statement.{statement}
 use Rattle.imgproc.proofs.reading.reading.Tie as tie
 
--- what is checked after the pair of layouts
-abbrev after : ReadingConfig → Geometry → ℕ → ℕ → Check
-after s g bytes words = readingSettings s then readingRoom g s bytes words
+-- both layouts are opened, and their sizes agree
+abbrev second : tie.Else2 → tie.After-known-told2
+second c = c .before .before .before .before .before .before
+
+abbrev first : tie.Else2 → tie.After-known-told
+first c = second c .before .before .before .before
+
+abbrev start : tie.Else2 → tie.Start
+start c = first c .before .before .before .before .before .before .before .before
+
+pair : (c : tie.Else2) → let a = start c .args in Pair (length (now (a .src))) (a .src-geometry) (length (now (a .dst))) (a .dst-geometry) (first c .before .layout .given .0 .0) (second c .before .target .given .0 .0)
+pair c = search pair-of
 
 validate-layout-requires : tie.Need-validate-layout-requires
 validate-layout-requires c κs = search needs
@@ -33,11 +35,7 @@ refusal-requires : tie.Need-refusal-requires
 refusal-requires c κs = search needs
 
 returns : tie.Need-returns
-returns c =
-    let v1 = c .before .before .before in
-    let a = v1 .before .before .before .before .before .args in
-    refused (now (a .src)) (a .src-geometry) (now (a .dst)) (a .dst-geometry) (a .config) (now (a .bytes)) (now (a .words)) _
-    (pair-source (length (now (a .src))) (a .src-geometry) (length (now (a .dst))) (a .dst-geometry) (after (a .config) (a .src-geometry) (length (now (a .bytes))) (length (now (a .words)))) (v1 .validate-layout .ensures) (c .before .enum-told .given .1) (c .refusal .ensures))
+returns c = refused (search ways)
 
 validate-layout-requires-2 : tie.Need-validate-layout-requires-2
 validate-layout-requires-2 c κs = search needs
@@ -52,34 +50,13 @@ refusal-requires-2 : tie.Need-refusal-requires-2
 refusal-requires-2 c κs = search needs
 
 returns-2 : tie.Need-returns-2
-returns-2 c =
-    let v2 = c .before .before .before in
-    let told1 = v2 .before in
-    let v1 = told1 .before .before .before in
-    let a = v1 .before .before .before .before .before .args in
-    refused (now (a .src)) (a .src-geometry) (now (a .dst)) (a .dst-geometry) (a .config) (now (a .bytes)) (now (a .words)) _
-    (pair-target (length (now (a .src))) (a .src-geometry) (length (now (a .dst))) (a .dst-geometry) (after (a .config) (a .src-geometry) (length (now (a .bytes))) (length (now (a .words)))) (v1 .validate-layout .ensures) (told1 .before .layout .given .1) (v2 .validate-layout2 .ensures) (c .before .enum-told2 .given .1) (c .refusal2 .ensures))
+returns-2 c = refused (search ways)
 
 returns-3 : tie.Need-returns-3
-returns-3 c =
-    let told2 = c .before .before .before in
-    let v2 = told2 .before .before .before in
-    let told1 = v2 .before in
-    let v1 = told1 .before .before .before in
-    let a = v1 .before .before .before .before .before .args in
-    refused (now (a .src)) (a .src-geometry) (now (a .dst)) (a .dst-geometry) (a .config) (now (a .bytes)) (now (a .words)) _
-    (pair-wide (length (now (a .src))) (a .src-geometry) (length (now (a .dst))) (a .dst-geometry) (after (a .config) (a .src-geometry) (length (now (a .bytes))) (length (now (a .words)))) (v1 .validate-layout .ensures) (told1 .before .layout .given .1) (v2 .validate-layout2 .ensures) (told2 .before .target .given .1) (c .if1 .taken))
+returns-3 c = refused (search ways)
 
 returns-4 : tie.Need-returns-4
-returns-4 c =
-    let else1 = c .before .before .before in
-    let told2 = else1 .before .before .before in
-    let v2 = told2 .before .before .before in
-    let told1 = v2 .before in
-    let v1 = told1 .before .before .before in
-    let a = v1 .before .before .before .before .before .args in
-    refused (now (a .src)) (a .src-geometry) (now (a .dst)) (a .dst-geometry) (a .config) (now (a .bytes)) (now (a .words)) _
-    (pair-high (length (now (a .src))) (a .src-geometry) (length (now (a .dst))) (a .dst-geometry) (after (a .config) (a .src-geometry) (length (now (a .bytes))) (length (now (a .words)))) (v1 .validate-layout .ensures) (told1 .before .layout .given .1) (v2 .validate-layout2 .ensures) (told2 .before .target .given .1) (else1 .if1 .left) (c .if2 .taken))
+returns-4 c = refused (search ways)
 
 check-settings-requires : tie.Need-check-settings-requires
 check-settings-requires c κs = search needs
@@ -88,18 +65,7 @@ enum-known-settings : tie.Need-enum-known-settings
 enum-known-settings c = search needs
 
 returns-5 : tie.Need-returns-5
-returns-5 c =
-    let s = c .before .before .before in
-    let else2 = s .before in
-    let else1 = else2 .before .before .before in
-    let told2 = else1 .before .before .before in
-    let v2 = told2 .before .before .before in
-    let told1 = v2 .before in
-    let v1 = told1 .before .before .before in
-    let a = v1 .before .before .before .before .before .args in
-    refused (now (a .src)) (a .src-geometry) (now (a .dst)) (a .dst-geometry) (a .config) (now (a .bytes)) (now (a .words)) _
-    (pair-same (length (now (a .src))) (a .src-geometry) (length (now (a .dst))) (a .dst-geometry) (after (a .config) (a .src-geometry) (length (now (a .bytes))) (length (now (a .words)))) (v1 .validate-layout .ensures) (told1 .before .layout .given .1) (v2 .validate-layout2 .ensures) (told2 .before .target .given .1) (else1 .if1 .left) (else2 .if2 .left)
-    ∙ then-refused (readingRoom (a .src-geometry) (a .config) (length (now (a .bytes))) (length (now (a .words)))) (sym (s .check-settings .ensures) ∙ c .before .settings .given .1))
+returns-5 c = refused (search ways)
 
 enum-told-3 : tie.Need-enum-told-3
 enum-told-3 c = search needs
@@ -107,62 +73,33 @@ enum-told-3 c = search needs
 check-room-requires : tie.Need-check-room-requires
 check-room-requires c κs =
     let s = c .before .before in
-    let else2 = s .before in
-    let else1 = else2 .before .before .before in
-    let told2 = else1 .before .before .before in
-    let v2 = told2 .before .before .before in
-    let told1 = v2 .before in
-    let v1 = told1 .before .before .before in
-    let a = v1 .before .before .before .before .before .args in
-    let k = kept-here _ _ (v1 .validate-layout .ensures) (told1 .before .layout .given .1) in
-    let y = says (a .config) (sym (s .check-settings .ensures) ∙ c .enum-told3 .given .1) in
+    let k = source-kept (pair (s .before)) in
+    let y = says (start (s .before) .args .config) (sym (s .check-settings .ensures) ∙ c .enum-told3 .given .1) in
     record { wide = k .wide; high = k .high; small-width = k .small-width; small-height = k .small-height; tile-width = y .tile-width; tile-height = y .tile-height }
 
 enum-known-room : tie.Need-enum-known-room
 enum-known-room c = search needs
 
 returns-6 : tie.Need-returns-6
-returns-6 c =
-    let r = c .before .before .before in
-    let told3 = r .before in
-    let s = told3 .before .before in
-    let else2 = s .before in
-    let else1 = else2 .before .before .before in
-    let told2 = else1 .before .before .before in
-    let v2 = told2 .before .before .before in
-    let told1 = v2 .before in
-    let v1 = told1 .before .before .before in
-    let a = v1 .before .before .before .before .before .args in
-    refused (now (a .src)) (a .src-geometry) (now (a .dst)) (a .dst-geometry) (a .config) (now (a .bytes)) (now (a .words)) _
-    (pair-same (length (now (a .src))) (a .src-geometry) (length (now (a .dst))) (a .dst-geometry) (after (a .config) (a .src-geometry) (length (now (a .bytes))) (length (now (a .words)))) (v1 .validate-layout .ensures) (told1 .before .layout .given .1) (v2 .validate-layout2 .ensures) (told2 .before .target .given .1) (else1 .if1 .left) (else2 .if2 .left)
-    ∙ then-accepted (readingRoom (a .src-geometry) (a .config) (length (now (a .bytes))) (length (now (a .words)))) (sym (s .check-settings .ensures) ∙ told3 .enum-told3 .given .1)
-    ∙ ap (λ (u : Geometry). readingRoom u (a .config) (length (now (a .bytes))) (length (now (a .words)))) (sym (taken-same _ _ (v1 .validate-layout .ensures) (told1 .before .layout .given .1)))
-    ∙ sym (r .check-room .ensures)
-    ∙ c .before .room .given .1)
+returns-6 c = refused (search ways)
 
 enum-told-4 : tie.Need-enum-told-4
 enum-told-4 c = search needs
 
 read-picture-requires : tie.Need-read-picture-requires
 read-picture-requires c κs =
-    let told4 = c .before .before .before in
-    let r = told4 .before .before in
-    let told3 = r .before in
-    let s = told3 .before .before in
-    let else2 = s .before in
-    let else1 = else2 .before .before .before in
-    let told2 = else1 .before .before .before in
-    let v2 = told2 .before .before .before in
-    let told1 = v2 .before in
-    let v1 = told1 .before .before .before in
-    let a = v1 .before .before .before .before .before .args in
-    let y = says (a .config) (sym (s .check-settings .ensures) ∙ told3 .enum-told3 .given .1) in
-    let fit = room-says (told1 .before .layout .given .0 .0) (a .config) (length (now (a .bytes))) (length (now (a .words))) (sym (r .check-room .ensures) ∙ told4 .enum-told4 .given .1) in
+    let j = c .before .before .before in
+    let r = j .before .before in
+    let k = r .before in
+    let s = k .before .before in
+    let p = pair (s .before) in
+    let y = says (start (s .before) .args .config) (sym (s .check-settings .ensures) ∙ k .enum-told3 .given .1) in
+    let fit = room-says (first (s .before) .before .layout .given .0 .0) (start (s .before) .args .config) _ _ (sym (r .check-room .ensures) ∙ j .enum-told4 .given .1) in
     record {
-      from = kept-here _ _ (v1 .validate-layout .ensures) (told1 .before .layout .given .1);
-      to = kept-here _ _ (v2 .validate-layout2 .ensures) (told2 .before .target .given .1);
-      wide = else1 .if1 .left;
-      high = else2 .if2 .left;
+      from = source-kept p;
+      to = target-kept p;
+      wide = p .wide;
+      high = p .high;
       element = y .element;
       floor = y .floor;
       kernel = y .kernel;
@@ -185,26 +122,11 @@ same-length-3 c = c .before .before .before .before .before .before .read-pictur
 returns-7 : tie.Need-returns-7
 returns-7 c =
     let ran = c .before .before .before .before .before .before in
-    let told4 = ran .before .before .before .before in
-    let r = told4 .before .before in
-    let told3 = r .before in
-    let s = told3 .before .before in
-    let else2 = s .before in
-    let else1 = else2 .before .before .before in
-    let told2 = else1 .before .before .before in
-    let v2 = told2 .before .before .before in
-    let told1 = v2 .before in
-    let v1 = told1 .before .before .before in
-    let a = v1 .before .before .before .before .before .args in
-    done (now (a .src)) (a .src-geometry) (now (a .dst)) (a .dst-geometry) (a .config) (now (a .bytes)) (now (a .words))
-    (taken-same _ _ (v1 .validate-layout .ensures) (told1 .before .layout .given .1))
-    (taken-same _ _ (v2 .validate-layout2 .ensures) (told2 .before .target .given .1))
-    (pair-same (length (now (a .src))) (a .src-geometry) (length (now (a .dst))) (a .dst-geometry) (after (a .config) (a .src-geometry) (length (now (a .bytes))) (length (now (a .words)))) (v1 .validate-layout .ensures) (told1 .before .layout .given .1) (v2 .validate-layout2 .ensures) (told2 .before .target .given .1) (else1 .if1 .left) (else2 .if2 .left)
-    ∙ then-accepted (readingRoom (a .src-geometry) (a .config) (length (now (a .bytes))) (length (now (a .words)))) (sym (s .check-settings .ensures) ∙ told3 .enum-told3 .given .1)
-    ∙ ap (λ (u : Geometry). readingRoom u (a .config) (length (now (a .bytes))) (length (now (a .words)))) (sym (taken-same _ _ (v1 .validate-layout .ensures) (told1 .before .layout .given .1)))
-    ∙ sym (r .check-room .ensures)
-    ∙ told4 .enum-told4 .given .1)
-    (ran .read-picture .ensures)
+    let j = ran .before .before .before .before in
+    let r = j .before .before in
+    let k = r .before in
+    let s = k .before .before in
+    done (pair (s .before)) (then-accepted _ (sym (s .check-settings .ensures) ∙ k .enum-told3 .given .1) ∙ sym (r .check-room .ensures) ∙ j .enum-told4 .given .1) (ran .read-picture .ensures)
 
 pub reading-spec : {M : Type 1} → statement M
 reading-spec =

@@ -1,6 +1,6 @@
 -- `meet_lanes` meets its contract: x lanes are met, one comparison each. Assumes nothing.
 use Prim.Native.Nat.{ℕ, _+_, _-_, _≤_}
-use mathlib.Core.Path.{_≡_}
+use mathlib.Core.Path.{_≡_, _∙_}
 use native.Mathlib.Omega.{arith}
 use lib.ListN.{getD}
 use Rattle.imgproc.specs.Compared.{first}
@@ -37,6 +37,12 @@ slice-read-extreme-2 c = search needs
 extreme-requires : tie.Need-extreme-requires Inv-loop μ-loop
 extreme-requires c κs = search needs
 
+counted-requires : tie.Need-counted-requires Inv-loop μ-loop
+counted-requires c κs = search needs
+
+chosen-requires : tie.Need-chosen-requires Inv-loop μ-loop
+chosen-requires c κs = search needs
+
 add-ws : tie.Need-add-ws Inv-loop μ-loop
 add-ws c = search needs
 
@@ -51,13 +57,13 @@ loop-less c = search needs
 
 loop-again : tie.Need-loop-again Inv-loop μ-loop
 loop-again c =
-    let called = c .before in
+    let called = c .before .before in
     let at-loop = called .before .before .before .before in
     let lp = at-loop .loop in
     let start = at-loop .before .before in
     let a = row-apart _ _ _ (lp .x) (start .args .a + lp .x) (lp .ws) (lp .inv .1) (start .pre .left-apart) (lp .inv .0) (omega arith) (omega arith) in
     let b = row-apart _ _ _ (lp .x) (start .args .b + lp .x) (lp .ws) (lp .inv .1) (start .pre .right-apart) (lp .inv .0) (omega arith) (omega arith) in
-    (omega arith, row-more _ _ _ (lp .x) _ (lp .ws) (lp .inv .1) (omega arith) (rw (a, b) at (called .extreme .ensures .chosen)), omega arith)
+    (omega arith, row-more _ _ _ (lp .x) _ (lp .ws) (lp .inv .1) (omega arith) (c .chosen .ensures ∙ rw (a, b) at (called .extreme .ensures .chosen)), omega arith)
 
 same-length : tie.Need-same-length Inv-loop μ-loop
 same-length c = c .before .loop .inv .1 .rest .long
@@ -77,6 +83,8 @@ meet-lanes-spec =
     add-extreme-2
     slice-read-extreme-2
     extreme-requires
+    counted-requires
+    chosen-requires
     add-ws
     slice-write-ws
     add-x

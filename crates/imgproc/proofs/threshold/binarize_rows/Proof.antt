@@ -6,8 +6,8 @@ use mathlib.Core.Path.{sym, _∙_}
 use mathlib.Core.List.{List}
 use lib.ListN.{length}
 use denote.Ref.{now}
+use Rattle.image.specs.Plane.{picture}
 use Rattle.imgproc.specs.Sauvola.{binarised}
-use Rattle.imgproc.specs.Tables.{picture}
 use Rattle.image.specs.PaintRows.{RowsPainted, rows-start, rows-same, rows-done, row-fits, part-long, rows-next, row-within-as}
 use Rattle.imgproc.proofs.VerdictLaws.{binarised-pixel}
 use Rattle.imgproc.proofs.threshold.binarize_rows.Statement.{statement}

@@ -4,8 +4,9 @@ use native.Mathlib.Omega.{arith}
 use mathlib.Core.Path.{_≡_}
 use lib.ListN.{length, getD}
 use denote.Ref.{now}
+use Rattle.image.specs.Plane.{picture}
 use Rattle.imgproc.specs.Sauvola.{verdict}
-use Rattle.imgproc.specs.Tables.{picture, pixelsOf}
+use Rattle.imgproc.specs.Tables.{pixelsOf}
 use Rattle.imgproc.proofs.TableLaws.{row-long, row-pixel}
 use Rattle.imgproc.proofs.VerdictLaws.{Filled, filled-none, filled-more, verdict-dark, verdict-light}
 use Rattle.imgproc.proofs.threshold.verdict_row.Statement.{statement}

@@ -6,6 +6,9 @@ use Rattle.imgproc_c.proofs.answers.read.Tie as tie
 enum-known-answer : tie.Need-enum-known-answer
 enum-known-answer c = search needs
 
+comparisons-requires : tie.Need-comparisons-requires
+comparisons-requires c κs = search needs
+
 enum-known-answer-2 : tie.Need-enum-known-answer-2
 enum-known-answer-2 c = search needs
 
@@ -32,4 +35,4 @@ returns-2 c = record {
 
 pub read-spec : {M : Type 1} → statement M
 read-spec =
-    tie.close (tie.spec enum-known-answer enum-known-answer-2 number-requires returns returns-2)
+    tie.close (tie.spec enum-known-answer comparisons-requires enum-known-answer-2 number-requires returns returns-2)

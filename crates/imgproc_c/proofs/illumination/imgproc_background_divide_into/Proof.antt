@@ -1,9 +1,6 @@
 -- The answer of the call, by number, and its count. Assumes nothing.
 use borrow.Author.Needs.{needs}
-use denote.Ref.{now}
-use Rattle.imgproc_c.specs.Operators.{division}
-use Rattle.imgproc_c.specs.Picture.{geometry}
-use Rattle.imgproc_c.proofs.OperatorNumbers.{divides}
+use Rattle.imgproc_c.proofs.OperatorNumbers.{counts-number}
 use Rattle.imgproc_c.proofs.illumination.imgproc_background_divide_into.Statement.{statement}
 use Rattle.imgproc_c.proofs.illumination.imgproc_background_divide_into.Tie as tie
 
@@ -20,10 +17,7 @@ same-length-2 : tie.Need-same-length-2
 same-length-2 c = search needs
 
 returns : tie.Need-returns
-returns c =
-    let p = c .before .before .before .before .before .before in
-    let a = p .before .before .before .before .before .before .args in
-    divides (c .counted .ensures) (now (a .src)) (geometry (a .src-width) (a .src-height) (a .src-stride)) (now (a .dst)) (geometry (a .dst-width) (a .dst-height) (a .dst-stride)) (now (a .workspace)) (division (a .structuring-element) (a .target-luma) (a .denominator-floor)) (p .background-divide-into .ensures)
+returns c = counts-number (c .before .before .before .before .before .before .background-divide-into .ensures) (c .counted .ensures)
 
 pub imgproc-background-divide-into-spec : {M : Type 1} → statement M
 imgproc-background-divide-into-spec =

@@ -1,10 +1,6 @@
 -- The answer of the call, by number, and its count. Assumes nothing.
 use borrow.Author.Needs.{needs}
-use denote.Ref.{now}
-use Rattle.imgproc.specs.Morphology.{opened}
-use Rattle.imgproc_c.specs.Operators.{twoSweepWalks}
-use Rattle.imgproc_c.specs.Picture.{geometry}
-use Rattle.imgproc_c.proofs.OperatorNumbers.{applied}
+use Rattle.imgproc_c.proofs.OperatorNumbers.{counts-number}
 use Rattle.imgproc_c.proofs.morphology.imgproc_grayscale_open_into.Statement.{statement}
 use Rattle.imgproc_c.proofs.morphology.imgproc_grayscale_open_into.Tie as tie
 
@@ -21,11 +17,7 @@ same-length-2 : tie.Need-same-length-2
 same-length-2 c = search needs
 
 returns : tie.Need-returns
-returns c =
-    let p = c .before .before .before .before .before .before in
-    let a = p .before .before .before .before .before .before .args in
-    let e = p .grayscale-open-into .ensures in
-    applied (c .counted .ensures) (now (a .src)) (geometry (a .src-width) (a .src-height) (a .src-stride)) (now (a .dst)) (geometry (a .dst-width) (a .dst-height) (a .dst-stride)) (now (a .workspace)) opened twoSweepWalks (a .kernel-size) (e .answers) (e .leaves) (e .workspace)
+returns c = counts-number (c .before .before .before .before .before .before .grayscale-open-into .ensures) (c .counted .ensures)
 
 pub imgproc-grayscale-open-into-spec : {M : Type 1} → statement M
 imgproc-grayscale-open-into-spec =

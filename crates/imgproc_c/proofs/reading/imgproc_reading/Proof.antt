@@ -1,8 +1,5 @@
 -- The answer of the call, by number, and its four counts. Assumes nothing.
 use borrow.Author.Needs.{needs}
-use denote.Ref.{now}
-use Rattle.imgproc_c.specs.Operators.{division, sauvola}
-use Rattle.imgproc_c.specs.Picture.{geometry}
 use Rattle.imgproc_c.proofs.ReadingNumbers.{reads}
 use Rattle.imgproc_c.proofs.reading.imgproc_reading.Statement.{statement}
 use Rattle.imgproc_c.proofs.reading.imgproc_reading.Tie as tie
@@ -30,33 +27,7 @@ returns c =
     let b = c .before .before .before .before .before .before .before .before .before .before .before in
     let m = b .before .before .before .before in
     let o = m .before .before .before .before .before in
-    let a = o .args in
-    reads
-    (now (a .src))
-    (geometry (a .src-width) (a .src-height) (a .src-stride))
-    (now (a .dst))
-    (geometry (a .dst-width) (a .dst-height) (a .dst-stride))
-    (division (a .structuring-element) (a .target-luma) (a .denominator-floor))
-    (a .opening-kernel)
-    (a .tile-width)
-    (a .tile-height)
-    (a .neighborhood-radius)
-    (a .threshold-offset)
-    (o .fits .threshold-offset)
-    (a .contrast-floor)
-    (a .method)
-    (a .k)
-    (a .dynamic-range)
-    (m .method-of .ensures)
-    (sauvola (a .radius) (a .k-milli) (a .sauvola-dynamic-range) (a .dark-value) (a .light-value))
-    (now (a .bytes))
-    (now (a .words))
-    (now (a .dark))
-    (now (a .light))
-    (now (a .skipped))
-    (now (a .comparisons))
-    (b .reading .ensures)
-    (c .read .ensures)
+    reads (o .args .method) (o .args .k) (o .args .dynamic-range) (o .fits .threshold-offset) (m .method-of .ensures) (b .reading .ensures) (c .read .ensures)
 
 pub imgproc-reading-spec : {M : Type 1} → statement M
 imgproc-reading-spec =

@@ -1,8 +1,5 @@
 -- The answer of the call, by number. Assumes nothing.
 use borrow.Author.Needs.{needs}
-use denote.Ref.{now}
-use Rattle.imgproc_c.specs.Operators.{sauvola}
-use Rattle.imgproc_c.specs.Picture.{geometry}
 use Rattle.imgproc_c.proofs.OperatorNumbers.{binarizes}
 use Rattle.imgproc_c.proofs.threshold.imgproc_sauvola_into.Statement.{statement}
 use Rattle.imgproc_c.proofs.threshold.imgproc_sauvola_into.Tie as tie
@@ -20,10 +17,7 @@ same-length-2 : tie.Need-same-length-2
 same-length-2 c = search needs
 
 returns : tie.Need-returns
-returns c =
-    let p = c .before .before .before .before .before in
-    let a = p .before .before .before .before .before .before .args in
-    binarizes (now (a .src)) (geometry (a .src-width) (a .src-height) (a .src-stride)) (now (a .dst)) (geometry (a .dst-width) (a .dst-height) (a .dst-stride)) (sauvola (a .radius) (a .k-milli) (a .dynamic-range) (a .dark-value) (a .light-value)) (now (a .workspace)) (p .sauvola-into .ensures) (c .binarized-number .ensures)
+returns c = binarizes (c .before .before .before .before .before .sauvola-into .ensures) (c .binarized-number .ensures)
 
 pub imgproc-sauvola-into-spec : {M : Type 1} → statement M
 imgproc-sauvola-into-spec =
