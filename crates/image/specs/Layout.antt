@@ -1,12 +1,14 @@
 -- The layout of a picture in a slice: which is refused, and with which number. Definitions only.
 use Prim.Native.Nat.{ℕ, _+_, _-_, _*_, _≤_, _<_}
 use mathlib.Core.Bool.{Bool, cond, _&&_, _||_}
+use mathlib.Core.List.{List, [], _∷_}
 use lib.Dec.{ltb, eqb}
 use Rattle.image.specs.declared.Geometry.{Geometry}
 use Rattle.image.specs.declared.LumaError.{LumaError}
 use Rattle.image.specs.declared.LumaError.the-variants.{EmptyDimensions, StrideTooSmall, BufferTooSmall, SideTooLarge, OutsidePicture}
 use Rattle.image.specs.declared.Layout.{Layout}
 use Rattle.image.specs.declared.Layout.the-variants.{Valid, Invalid}
+use Rattle.image.specs.Answers.{Condition, Answer, accepted, refused}
 
 -- the largest side
 abbrev pub sideLimit : ℕ
@@ -16,14 +18,24 @@ sideLimit = 4096
 abbrev pub neededLength : Geometry → ℕ
 neededLength g = g .stride * (g .height - 1) + g .width
 
--- the layout of g in a slice of len bytes: the first refusal that fits, or the geometry
+-- what a layout is refused for, in this order: a zero side; a stride below the width; a slice under the needed length; a side
+-- above the limit
+abbrev pub layoutConditions : ℕ → Geometry → List (Condition LumaError)
+layoutConditions len g =
+    record { fits = eqb (g .width) 0 || eqb (g .height) 0; refusal = EmptyDimensions } ∷
+    record { fits = ltb (g .stride) (g .width); refusal = StrideTooSmall } ∷
+    record { fits = ltb len (neededLength g); refusal = BufferTooSmall } ∷
+    record { fits = ltb sideLimit (g .width) || ltb sideLimit (g .height); refusal = SideTooLarge } ∷
+    []
+
+-- the layout of g by a list of conditions: the first refusal that fits, or the geometry
+abbrev pub layoutBy : Geometry → List (Condition LumaError) → Layout
+layoutBy g [] = Valid g
+layoutBy g (c ∷ cs) = cond (c .fits) (Invalid (c .refusal)) (layoutBy g cs)
+
+-- the layout of g in a slice of len bytes
 unfoldable pub layoutOf : ℕ → Geometry → Layout
-layoutOf len g =
-    cond (eqb (g .width) 0 || eqb (g .height) 0) (Invalid EmptyDimensions)
-    (cond (ltb (g .stride) (g .width)) (Invalid StrideTooSmall)
-    (cond (ltb len (neededLength g)) (Invalid BufferTooSmall)
-    (cond (ltb sideLimit (g .width) || ltb sideLimit (g .height)) (Invalid SideTooLarge)
-    (Valid g))))
+layoutOf len g = layoutBy g (layoutConditions len g)
 
 -- a place asked for by number: the layout's refusal, else whether the place is inside
 abbrev pub askedFor : Layout → Bool → Layout
@@ -50,6 +62,11 @@ numberOf StrideTooSmall = 2
 numberOf BufferTooSmall = 3
 numberOf SideTooLarge = 4
 numberOf OutsidePicture = 9
+
+-- a layout's answer: the geometry, or the number of the refusal
+abbrev pub layoutAnswer : Layout → Answer Geometry
+layoutAnswer (Valid g) = accepted g
+layoutAnswer (Invalid e) = refused (numberOf e)
 
 -- the number of a layout's refusal, and 0 of a valid one
 abbrev pub layoutNumber : Layout → ℕ

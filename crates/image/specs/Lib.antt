@@ -1,4 +1,5 @@
 -- What the contracts of `image` say, and the laws about it that this crate and those above it cite.
+pub mod Answers
 pub mod Layout
 pub mod Plane
 pub mod Pixel

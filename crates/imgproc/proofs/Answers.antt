@@ -13,7 +13,7 @@ use Rattle.imgproc.specs.declared.ImgProcError.the-variants.{InvalidConf
 use Rattle.imgproc.specs.declared.Check.{Check}
 use Rattle.imgproc.specs.declared.Check.the-variants.{Accepted}
 use Rattle.imgproc.specs.declared.threshold.SauvolaConfig.{SauvolaConfig}
-use Rattle.imgproc.specs.Refusals.{refusedIf, sauvolaSettings, settingsAndRoom, tableEntries}
+use Rattle.imgproc.specs.Refusals.{first, refusedIf, sauvolaSettings, settingsAndRoom, tableEntries}
 use Rattle.imgproc.specs.Tables.{InRange}
 use Rattle.imgproc.specs.RefusalLaws.{both-accepted, not-refused}
 use Rattle.imgproc.proofs.WaysOut.{Pair}
@@ -23,7 +23,8 @@ pub entries-small : (w h : ℕ) → w ≤ sideLimit → h ≤ sideLimit → (w +
 entries-small w h W H = mul-le-mul {n₂ = sideLimit + 1} {m₂ = sideLimit + 1} (omega arith) (omega arith)
 
 -- what accepted settings say, and accepted room
-pub in-range : (config : SauvolaConfig) → sauvolaSettings config ≡ Accepted → InRange config
+pub in-range : (config : SauvolaConfig) → first (sauvolaSettings config) ≡ Accepted → InRange config
+unfolding sauvolaSettings
 in-range config p =
     let a = eqb (config .radius) 0 in
     let b = ltb 1000 (config .«k_milli») in
@@ -36,7 +37,7 @@ in-range config p =
       range-some = pos-of-ne-zero (eqb-false (config .«dynamic_range») 0 (two .1));
     }
 
-pub room-for : (config : SauvolaConfig) (g : Geometry) (room : ℕ) → settingsAndRoom config g room ≡ Accepted → InRange config × (tableEntries (g .width) (g .height) ≤ room)
+pub room-for : (config : SauvolaConfig) (g : Geometry) (room : ℕ) → first (settingsAndRoom config g room) ≡ Accepted → InRange config × (tableEntries (g .width) (g .height) ≤ room)
 room-for config g room p =
     let short = ltb room (tableEntries (g .width) (g .height)) in
     let both = both-accepted (sauvolaSettings config) (refusedIf short WorkspaceTooSmall) p in
@@ -46,7 +47,7 @@ room-for config g room p =
 pub room-here :
     {a b room : ℕ} {s t g h : Geometry} {config : SauvolaConfig} {check : Check}
     → Pair a s b t g h
-    → check ≡ settingsAndRoom config g room
+    → check ≡ first (settingsAndRoom config g room)
     → check ≡ Accepted
     → InRange config × (tableEntries (g .width) (g .height) ≤ room)
 room-here {g = g} p is a = room-for _ g _ (sym is ∙ a)

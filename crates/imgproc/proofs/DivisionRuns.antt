@@ -18,7 +18,7 @@ use Rattle.imgproc.specs.declared.morphology.Compared.the-variants.{Comp
 use Rattle.imgproc.specs.declared.tally.Tally.{Tally}
 use Rattle.imgproc.specs.Morphology.{closed}
 use Rattle.imgproc.specs.Sweeps.{TwiceReady, TwiceMorphed}
-use Rattle.imgproc.specs.Refusals.{divisionSettings}
+use Rattle.imgproc.specs.Refusals.{first, divisionSettings}
 use Rattle.imgproc.specs.Division.{quotient, dividedBy, divided, FlattenReady, Flattened, DivideReady, Divided}
 use Rattle.image.specs.LayoutLaws.{area-small}
 use Rattle.imgproc.proofs.Copies.{packs-plane, unpacks-done}
@@ -88,14 +88,18 @@ module _ (src : List ℕ) (s : Geometry) (dst : List ℕ) (t : Geometry) (d : Ba
 
 -- ---- the settings
 module _ (d : BackgroundDivideConfig) where
-  pub element-small : d .«structuring_element» < 3 → Refused InvalidConfiguration ≡ divisionSettings d
+  pub element-small : d .«structuring_element» < 3 → Refused InvalidConfiguration ≡ first (divisionSettings d)
+  unfolding first divisionSettings
   element-small x = simp (lt-ltb (d .«structuring_element») 3 x)
 
-  pub element-even : 3 ≤ d .«structuring_element» → d .«structuring_element» % 2 ≡ 0 → Refused InvalidConfiguration ≡ divisionSettings d
+  pub element-even : 3 ≤ d .«structuring_element» → d .«structuring_element» % 2 ≡ 0 → Refused InvalidConfiguration ≡ first (divisionSettings d)
+  unfolding first divisionSettings
   element-even l x = simp (le-ltb (d .«structuring_element») 3 l, eq-eqb _ _ x)
 
-  pub no-floor : 3 ≤ d .«structuring_element» → (d .«structuring_element» % 2 ≡ 0 → ⊥) → d .«denominator_floor» ≡ 0 → Refused InvalidConfiguration ≡ divisionSettings d
+  pub no-floor : 3 ≤ d .«structuring_element» → (d .«structuring_element» % 2 ≡ 0 → ⊥) → d .«denominator_floor» ≡ 0 → Refused InvalidConfiguration ≡ first (divisionSettings d)
+  unfolding first divisionSettings
   no-floor l o x = simp (le-ltb (d .«structuring_element») 3 l, ne-eqb (d .«structuring_element» % 2) 0 o, eq-eqb (d .«denominator_floor») 0 x)
 
-  pub settings-good : 3 ≤ d .«structuring_element» → (d .«structuring_element» % 2 ≡ 0 → ⊥) → (d .«denominator_floor» ≡ 0 → ⊥) → Accepted ≡ divisionSettings d
+  pub settings-good : 3 ≤ d .«structuring_element» → (d .«structuring_element» % 2 ≡ 0 → ⊥) → (d .«denominator_floor» ≡ 0 → ⊥) → Accepted ≡ first (divisionSettings d)
+  unfolding first divisionSettings
   settings-good l o x = simp (le-ltb (d .«structuring_element») 3 l, ne-eqb (d .«structuring_element» % 2) 0 o, ne-eqb (d .«denominator_floor») 0 x)

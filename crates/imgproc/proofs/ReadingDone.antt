@@ -18,7 +18,7 @@ use Rattle.imgproc.specs.declared.tally.Tally.{Tally}
 use Rattle.imgproc.specs.Reach.{R}
 use Rattle.imgproc.specs.Walks.{sweep-walks}
 use Rattle.imgproc.specs.Grid.{skips}
-use Rattle.imgproc.specs.Reading.{isDark, isLight, isSkipped, openedOf, judgedOver, judged, pixels, readingOf, marked}
+use Rattle.imgproc.specs.Reading.{ReadingNumbers, isDark, isLight, isSkipped, openedOf, judgedOver, judged, pixels, readingOf, marked}
 use Rattle.imgproc.specs.ReadingSteps.{markedOver, OpenReady, Opened, MarkReady, Marks, JudgeRoom, PictureJudged, ReadReady, ReadDone}
 
 -- the packed geometry of a picture
@@ -32,9 +32,12 @@ packed-kept {len} {g} k =
     let m : g .width * g .height ≡ g .width * (g .height - 1) + g .width = ap (λ (n : ℕ). g .width * n) (sym e) ∙ mul-add (g .width) (g .height - 1) 1 ∙ ap (λ (n : ℕ). g .width * (g .height - 1) + n) (mul-one (g .width)) in
     record { wide = k .wide; high = k .high; stride = omega arith; fits = omega arith; small-width = k .small-width; small-height = k .small-height }
 
--- the four counts, one by one
+-- the four counts, one by one, and their numbers
 abbrev pub counts-of : ℕ → ℕ → ℕ → ℕ → ReadingCounts
 counts-of a b c d = record { dark = a; light = b; skipped = c; tally = record { comparisons = d } }
+
+abbrev numbers : ℕ → ℕ → ℕ → ℕ → ReadingNumbers
+numbers a b c d = record { dark = a; light = b; skipped = c; comparisons = d }
 
 module _ (src : List ℕ) (g : Geometry) (dst : List ℕ) (t : Geometry) (s : ReadingConfig) (bytes words : List ℕ) (ready : ReadReady src g dst t s bytes words) (tally : Tally) (fresh : tally .comparisons ≡ 0) where
   pub open-stage : OpenReady tally src g s bytes
@@ -103,8 +106,8 @@ module _ (src : List ℕ) (g : Geometry) (dst : List ℕ) (t : Geometry) (s : Re
       unfolding source readingOf
       read-done {j} p l = record {
         counted =
-            ap₂ (λ (a b : ℕ). counts-of a b (j .skipped) (raised .comparisons)) (p .dark ∙ count-is isDark) (p .light ∙ count-is isLight)
-            ∙ ap₂ (counts-of _ _) (p .skipped ∙ count-is isSkipped) comparisons-are;
+            ap₂ (λ (a b : ℕ). numbers a b (j .skipped) (raised .comparisons)) (p .dark ∙ count-is isDark) (p .light ∙ count-is isLight)
+            ∙ ap₂ (numbers _ _) (p .skipped ∙ count-is isSkipped) comparisons-are;
         leaves = p .leaves ∙ ap (λ (z : List ℕ). painted z (g .width) (g .height) (t .stride) dst) marked-is;
         bytes-long = m .bytes-long ∙ o .long;
         words-long = l ∙ m .words-long;

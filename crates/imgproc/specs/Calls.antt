@@ -4,9 +4,9 @@ use mathlib.Core.Path.{_≡_}
 use mathlib.Core.List.{List}
 use lib.ListN.{length}
 use Rattle.image.specs.declared.Geometry.{Geometry}
+use Rattle.image.specs.Answers.{Answer}
 use Rattle.image.specs.Plane.{painted, picture}
-use Rattle.imgproc.specs.declared.Check.{Check}
-use Rattle.imgproc.specs.Refusals.{_then_, pairCheck, leftBy, Lent}
+use Rattle.imgproc.specs.Refusals.{Conditions, first, _then_, pairConditions, answerBy, leftBy, Lent}
 
 -- what a call is lent
 pub record Loan (Settings : Type 0) : Type 0 where
@@ -22,17 +22,31 @@ pub record Left : Type 0 where
   pub dst : List ℕ
   pub workspace : List ℕ
 
--- the check of a call: both layouts and the sizes, and then its own
-abbrev pub checkOf : {S : Type 0} → (S → Geometry → ℕ → Check) → Loan S → Check
-checkOf own lent = pairCheck (length (lent .src)) (lent .source) (length (lent .dst)) (lent .target) then own (lent .settings) (lent .source) (length (lent .workspace))
+-- what makes a call: the conditions of its own, after those of the pair; the values that it answers; the packed picture that it makes
+pub record Operator (Settings Values : Type 0) : Type 1 where
+  pub own : Settings → Geometry → ℕ → Conditions
+  pub values : Settings → ℕ → ℕ → Values
+  pub make : Settings → ℕ → ℕ → List ℕ → List ℕ
 
--- the destination with the picture that a call makes of its source
-abbrev pub madeOf : {S : Type 0} → (S → ℕ → ℕ → List ℕ → List ℕ) → Loan S → List ℕ
-madeOf make lent =
-    let g = lent .source in painted (make (lent .settings) (g .width) (g .height) (picture (lent .src) g)) (g .width) (g .height) (lent .target .stride) (lent .dst)
+module _ {S A : Type 0} (operator : Operator S A) (lent : Loan S) where
+  -- what a call is refused for: both layouts, the sizes, and what is its own
+  abbrev pub conditionsOf : Conditions
+  conditionsOf =
+      pairConditions (length (lent .src)) (lent .source) (length (lent .dst)) (lent .target) then
+      operator .own (lent .settings) (lent .source) (length (lent .workspace))
 
--- the contract of a call with its own check, answer and picture
-pub record Serves {S A : Type 0} (own : S → Geometry → ℕ → Check) (answerOf : S → Geometry → Check → A) (make : S → ℕ → ℕ → List ℕ → List ℕ) (lent : Loan S) (answer : A) (left : Left) : Type 0 where
-  pub answers : answer ≡ answerOf (lent .settings) (lent .source) (checkOf own lent)
-  pub leaves : left .dst ≡ leftBy (checkOf own lent) (madeOf make lent) (lent .dst)
-  pub keeps : Lent (checkOf own lent) (lent .workspace) (left .workspace)
+  -- its answer
+  abbrev pub answerOf : Answer A
+  answerOf = answerBy (first conditionsOf) (operator .values (lent .settings) (lent .source .width) (lent .source .height))
+
+  -- the destination with the picture that it makes of its source in the rows
+  abbrev pub madeOf : List ℕ
+  madeOf =
+      let g = lent .source in
+      painted (operator .make (lent .settings) (g .width) (g .height) (picture (lent .src) g)) (g .width) (g .height) (lent .target .stride) (lent .dst)
+
+  -- the contract of a call: its answer, and what is left of what was lent
+  pub record Serves (answer : Answer A) (left : Left) : Type 0 where
+    pub answers : answer ≡ answerOf
+    pub leaves : left .dst ≡ leftBy (first conditionsOf) madeOf (lent .dst)
+    pub keeps : Lent (first conditionsOf) (lent .workspace) (left .workspace)

@@ -7,13 +7,11 @@ use Rattle.image.specs.declared.Geometry.{Geometry}
 use Rattle.image.specs.Layout.{Kept}
 use Rattle.image.specs.Plane.{plane, pixel, painted, part, picture}
 use Rattle.imgproc.specs.declared.illumination.BackgroundDivideConfig.{BackgroundDivideConfig}
-use Rattle.imgproc.specs.declared.morphology.Compared.{Compared}
 use Rattle.imgproc.specs.declared.tally.Tally.{Tally}
 use Rattle.imgproc.specs.Reach.{sweepWalks}
 use Rattle.imgproc.specs.Morphology.{sweptRect, closed}
-use Rattle.imgproc.specs.MorphologyCalls.{compared}
 use Rattle.imgproc.specs.Refusals.{elementAndRoom}
-use Rattle.imgproc.specs.Calls.{Loan, Left, Serves}
+use Rattle.imgproc.specs.Calls.{Operator}
 
 -- the Rust's defaults
 abbrev pub divisionDefaults : BackgroundDivideConfig
@@ -33,9 +31,9 @@ unfoldable pub divided : BackgroundDivideConfig → ℕ → ℕ → List ℕ →
 unfolding dividedBy sweptRect
 divided d w h p = dividedBy d w h p (closed (d .«structuring_element») w h p)
 
--- the contract of `background_divide_into`
-abbrev pub Divides : Loan BackgroundDivideConfig → Compared → Left → Type 0
-Divides = Serves elementAndRoom (λ d g check. compared check (2 * sweepWalks (d .«structuring_element») (g .width) (g .height))) divided
+-- `background_divide_into`: its conditions, the comparisons of a closing, and the divided picture
+abbrev pub division : Operator BackgroundDivideConfig ℕ
+division = record { own = elementAndRoom; values = λ d w h. 2 * sweepWalks (d .«structuring_element») w h; make = divided }
 
 -- ---- inside: what the parts of an accepted call ask and leave
 

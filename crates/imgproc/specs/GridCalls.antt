@@ -9,7 +9,8 @@ use lib.Ieee.{Float, lt}
 use lib.Ieee.Scale.{finite}
 use Rattle.image.specs.declared.Geometry.{Geometry}
 use Rattle.image.specs.declared.LumaError.the-variants.{OutsidePicture}
-use Rattle.image.specs.Layout.{layoutOf, sideLimit}
+use Rattle.image.specs.Answers.{Answer, accepted, refused}
+use Rattle.image.specs.Layout.{sideLimit}
 use Rattle.image.specs.Plane.{overwritten, picture}
 use Rattle.imgproc.specs.declared.ImgProcError.{ImgProcError}
 use Rattle.imgproc.specs.declared.ImgProcError.the-variants.{Image, InvalidConfiguration, WorkspaceTooSmall, GridBufferTooSmall}
@@ -29,7 +30,9 @@ use Rattle.imgproc.specs.declared.grid.TileSkip.{TileSkip}
 use Rattle.imgproc.specs.declared.grid.TileSkip.the-variants.{Is, Refused as TileSkip·Refused}
 use Rattle.imgproc.specs.Reach.{ceiling}
 use Rattle.imgproc.specs.Grid.{tilesX, tilesY, nought, thresholds, skips}
-use Rattle.imgproc.specs.Refusals.{_then_, refusedIf, layoutCheck, leftBy, Lent}
+use Rattle.imgproc.specs.Refusals.{
+  errorNumber, Conditions, first, refusedIf, _then_, answerBy, leftBy, Lent, viewConditions,
+}
 
 -- ---- build
 
@@ -43,43 +46,74 @@ usableMethod Midrange = true
 usableMethod (Sauvola s) = usableFloats (s .k) (s .«dynamic_range»)
 
 -- zero tile side, or for Sauvola k or dynamic_range not finite or dynamic_range ≤ 0
-abbrev pub gridSettingsCheck : TileThresholdConfig → Check
-gridSettingsCheck g = refusedIf (eqb (g .«tile_width») 0 || eqb (g .«tile_height») 0 || not (usableMethod (g .method))) InvalidConfiguration
+unfoldable pub gridSettings : TileThresholdConfig → Conditions
+gridSettings g = refusedIf (eqb (g .«tile_width») 0 || eqb (g .«tile_height») 0 || not (usableMethod (g .method))) InvalidConfiguration
 
 -- t = tiles_x × tiles_y
 abbrev pub tileCount : TileThresholdConfig → ℕ → ℕ → ℕ
 tileCount g w h = tilesX g w * tilesY g h
 
--- u64 workspace under 5t
-abbrev pub gridWorkspaceCheck : ℕ → ℕ → Check
-gridWorkspaceCheck t room = refusedIf (ltb room (5 * t)) WorkspaceTooSmall
+-- u64 workspace under 5t; threshold or skip buffer under t bytes
+abbrev pub gridRoom : ℕ → ℕ → ℕ → ℕ → Conditions
+gridRoom t room thresholdRoom skipRoom =
+    refusedIf (ltb room (5 * t)) WorkspaceTooSmall then
+    refusedIf (ltb thresholdRoom t || ltb skipRoom t) GridBufferTooSmall
 
--- threshold or skip buffer under t bytes
-abbrev pub gridBuffersCheck : ℕ → ℕ → ℕ → Check
-gridBuffersCheck t thresholdRoom skipRoom = refusedIf (ltb thresholdRoom t || ltb skipRoom t) GridBufferTooSmall
+-- what a build is lent
+pub record BuildLent : Type 0 where
+  pub src : List ℕ
+  pub source : Geometry
+  pub settings : TileThresholdConfig
+  pub workspace : List ℕ
+  pub thresholds : List ℕ
+  pub skips : List ℕ
 
--- the workspace before the buffers
-abbrev pub gridRoomCheck : ℕ → ℕ → ℕ → ℕ → Check
-gridRoomCheck t room thresholdRoom skipRoom = gridWorkspaceCheck t room then gridBuffersCheck t thresholdRoom skipRoom
+-- what is left of it
+pub record BuildLeft : Type 0 where
+  pub workspace : List ℕ
+  pub thresholds : List ℕ
+  pub skips : List ℕ
 
--- layout; settings; room
-abbrev pub buildCheck : ℕ → Geometry → TileThresholdConfig → ℕ → ℕ → ℕ → Check
-buildCheck len s g room thresholdRoom skipRoom =
-    layoutCheck (layoutOf len s) then
-    gridSettingsCheck g then
-    gridRoomCheck (tileCount g (s .width) (s .height)) room thresholdRoom skipRoom
+-- the values of a build
+pub record TileCounts : Type 0 where
+  pub tiles-x : ℕ
+  pub tiles-y : ℕ
 
--- tiles_x and tiles_y, or the refusal
-abbrev pub builtOf : Check → ℕ → ℕ → Built
-builtOf Accepted x y = Tiles x y
-builtOf (Refused e) x y = Built·Refused e
+-- what `Built` says: the tile counts, or the number of the refusal
+abbrev pub builtAnswer : Built → Answer TileCounts
+builtAnswer (Tiles x y) = accepted (record { tiles-x = x; tiles-y = y })
+builtAnswer (Built·Refused e) = refused (errorNumber e)
 
--- the contract of `build`: the first t bytes of both buffers are the picture's thresholds and skips, and every other byte is as it was
-pub record Builds (src : List ℕ) (s : Geometry) (g : TileThresholdConfig) (ws th sk : List ℕ) (answer : Built) (ws′ th′ sk′ : List ℕ) : Type 0 where
-  pub answers : answer ≡ builtOf (buildCheck (length src) s g (length ws) (length th) (length sk)) (tilesX g (s .width)) (tilesY g (s .height))
-  pub thresholds-left : th′ ≡ leftBy (buildCheck (length src) s g (length ws) (length th) (length sk)) (overwritten 0 (thresholds g (s .width) (s .height) (picture src s)) th) th
-  pub skips-left : sk′ ≡ leftBy (buildCheck (length src) s g (length ws) (length th) (length sk)) (overwritten 0 (skips g (s .width) (s .height) (picture src s)) sk) sk
-  pub workspace-left : Lent (buildCheck (length src) s g (length ws) (length th) (length sk)) ws ws′
+-- what a build with settings that are checked by a list of their own is refused for: the layout; the settings; the room
+abbrev pub buildConditionsBy : Conditions → BuildLent → Conditions
+buildConditionsBy settings lent =
+    viewConditions (length (lent .src)) (lent .source) then
+    settings then
+    gridRoom (tileCount (lent .settings) (lent .source .width) (lent .source .height)) (length (lent .workspace)) (length (lent .thresholds)) (length (lent .skips))
+
+abbrev pub buildConditions : BuildLent → Conditions
+buildConditions lent = buildConditionsBy (gridSettings (lent .settings)) lent
+
+-- the tile counts of what was lent
+abbrev pub tilesFrom : BuildLent → TileCounts
+tilesFrom lent = record { tiles-x = tilesX (lent .settings) (lent .source .width); tiles-y = tilesY (lent .settings) (lent .source .height) }
+
+-- a build by a list of conditions: the first t bytes of both buffers are the picture's thresholds and skips, and every other byte is as it was
+pub record BuildsBy (cs : Conditions) (lent : BuildLent) (answer : Answer TileCounts) (left : BuildLeft) : Type 0 where
+  pub answers : answer ≡ answerBy (first cs) (tilesFrom lent)
+  pub thresholds-left : left .thresholds
+      ≡ leftBy (first cs)
+      (overwritten 0 (thresholds (lent .settings) (lent .source .width) (lent .source .height) (picture (lent .src) (lent .source))) (lent .thresholds))
+      (lent .thresholds)
+  pub skips-left : left .skips
+      ≡ leftBy (first cs)
+      (overwritten 0 (skips (lent .settings) (lent .source .width) (lent .source .height) (picture (lent .src) (lent .source))) (lent .skips))
+      (lent .skips)
+  pub workspace-left : Lent (first cs) (lent .workspace) (left .workspace)
+
+-- the contract of `build`
+abbrev pub Builds : BuildLent → Answer TileCounts → BuildLeft → Type 0
+Builds lent = BuildsBy (buildConditions lent) lent
 
 -- buffers that hold t tiles
 pub record Rooms (t : ℕ) (ws th sk : List ℕ) : Type 0 where
@@ -110,54 +144,69 @@ badGrid q =
     not (eqb (q .«tiles_y») (ceiling (q .height) (q .«tile_height»)))
 
 -- a bad grid; buffer under t; pixel or row outside the picture
-abbrev pub queryCheck : TileThresholdGrid → ℕ → Bool → Check
-queryCheck q len inside =
+abbrev pub queryConditions : TileThresholdGrid → ℕ → Bool → Conditions
+queryConditions q len inside =
     refusedIf (badGrid q) InvalidConfiguration then
     refusedIf (ltb len (q .«tiles_x» * q .«tiles_y»)) GridBufferTooSmall then
     refusedIf (not inside) (Image OutsidePicture)
 
--- the place of a tile, or the refusal
-abbrev pub placeBy : Check → ℕ → TilePlace
-placeBy Accepted i = At i
-placeBy (Refused e) i = TilePlace·Refused e
+-- a query about pixel (x, y), and about pixel row y, of a buffer of len bytes
+abbrev pub pixelConditions : TileThresholdGrid → ℕ → ℕ → ℕ → Conditions
+pixelConditions q len x y = queryConditions q len (ltb x (q .width) && ltb y (q .height))
+
+abbrev pub rowConditions : TileThresholdGrid → ℕ → ℕ → Conditions
+rowConditions q len y = queryConditions q len (ltb y (q .height))
 
 -- the tile of pixel (x, y): tile column ⌊x / tile_width⌋, tile row ⌊y / tile_height⌋
 abbrev pub tileOf : TileThresholdGrid → ℕ → ℕ → ℕ
 tileOf q x y = y / q .«tile_height» * q .«tiles_x» + x / q .«tile_width»
 
--- the place of the tile of pixel (x, y) in a buffer of len bytes
-abbrev pub pixelPlace : TileThresholdGrid → ℕ → ℕ → ℕ → TilePlace
-pixelPlace q len x y = placeBy (queryCheck q len (ltb x (q .width) && ltb y (q .height))) (tileOf q x y)
-
--- the place of the first tile of the tile row of pixel row y
-abbrev pub rowPlace : TileThresholdGrid → ℕ → ℕ → TilePlace
-rowPlace q len y = placeBy (queryCheck q len (ltb y (q .height))) (y / q .«tile_height» * q .«tiles_x»)
-
--- the refusal of a place; a place that is there has none, and the first kind of a query stands in
-abbrev pub placeRefusal : TilePlace → ImgProcError
-placeRefusal (TilePlace·Refused e) = e
-placeRefusal (At i) = InvalidConfiguration
-
--- the stored threshold of a tile
-abbrev pub thresholdAt : TilePlace → List ℕ → TileThreshold
-thresholdAt (At i) d = Value (getD d i 0)
-thresholdAt (TilePlace·Refused e) d = TileThreshold·Refused e
+-- the first tile of the tile row of pixel row y
+abbrev pub tileRowOf : TileThresholdGrid → ℕ → ℕ
+tileRowOf q y = y / q .«tile_height» * q .«tiles_x»
 
 -- each byte but 0 is skipped
 abbrev pub skipped : List ℕ → ℕ → Bool
 skipped d i = not (eqb (getD d i 0) 0)
-
--- the stored skip of a tile
-abbrev pub skipAt : TilePlace → List ℕ → TileSkip
-skipAt (At i) d = Is (skipped d i)
-skipAt (TilePlace·Refused e) d = TileSkip·Refused e
 
 -- the n tiles from i on are all skipped
 unfoldable pub allSkipped : List ℕ → ℕ → ℕ → Bool
 allSkipped d i zero = true
 allSkipped d i (suc n) = allSkipped d i n && skipped d (i + n)
 
--- every tile of a tile row of n tiles
-abbrev pub rowSkip : TilePlace → ℕ → List ℕ → TileSkip
-rowSkip (At i) n d = Is (allSkipped d i n)
-rowSkip (TilePlace·Refused e) n d = TileSkip·Refused e
+-- what `TileThreshold` says: the byte, or the number of the refusal
+abbrev pub tileThresholdAnswer : TileThreshold → Answer ℕ
+tileThresholdAnswer (Value v) = accepted v
+tileThresholdAnswer (TileThreshold·Refused e) = refused (errorNumber e)
+
+-- what `TileSkip` says: yes or no, or the number of the refusal
+abbrev pub tileSkipAnswer : TileSkip → Answer Bool
+tileSkipAnswer (Is b) = accepted b
+tileSkipAnswer (TileSkip·Refused e) = refused (errorNumber e)
+
+-- the contracts of the three queries: the stored threshold, the stored skip, and whether the whole tile row is skipped
+abbrev pub thresholdAsked : TileThresholdGrid → List ℕ → ℕ → ℕ → Answer ℕ
+thresholdAsked q d x y = answerBy (first (pixelConditions q (length d) x y)) (getD d (tileOf q x y) 0)
+
+abbrev pub skipAsked : TileThresholdGrid → List ℕ → ℕ → ℕ → Answer Bool
+skipAsked q d x y = answerBy (first (pixelConditions q (length d) x y)) (skipped d (tileOf q x y))
+
+abbrev pub rowSkipAsked : TileThresholdGrid → List ℕ → ℕ → Answer Bool
+rowSkipAsked q d y = answerBy (first (rowConditions q (length d) y)) (allSkipped d (tileRowOf q y) (q .«tiles_x»))
+
+-- ---- inside: the place of a tile, or the refusal
+
+abbrev pub placeBy : Check → ℕ → TilePlace
+placeBy Accepted i = At i
+placeBy (Refused e) i = TilePlace·Refused e
+
+abbrev pub pixelPlace : TileThresholdGrid → ℕ → ℕ → ℕ → TilePlace
+pixelPlace q len x y = placeBy (first (pixelConditions q len x y)) (tileOf q x y)
+
+abbrev pub rowPlace : TileThresholdGrid → ℕ → ℕ → TilePlace
+rowPlace q len y = placeBy (first (rowConditions q len y)) (tileRowOf q y)
+
+-- the refusal of a place; a place that is there has none, and the first kind of a query stands in
+abbrev pub placeRefusal : TilePlace → ImgProcError
+placeRefusal (TilePlace·Refused e) = e
+placeRefusal (At i) = InvalidConfiguration

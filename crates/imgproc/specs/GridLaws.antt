@@ -4,9 +4,13 @@ use mathlib.Core.Logic.{_↔_}
 use Prim.Native.Nat.{ℕ, suc, _+_, _-_, _*_, _/_, _%_, _≤_, _<_}
 use native.Mathlib.Nat.{le-div-iff-mul-le, div-lt-iff-lt-mul, suc-mul, div-mul-le-self, mul-div-cancel, div-eq-of-lt-le, div-add-mod', mod-lt, mul-le-mul-left}
 use native.Mathlib.Omega.{arith}
+use mathlib.Core.Bool.{false}
+use mathlib.Core.List.{List}
+use borrow.Author.Tests.{le-ltb}
+use Rattle.image.specs.Plane.{pixel}
 use Rattle.imgproc.specs.declared.grid.TileThresholdConfig.{TileThresholdConfig}
 use Rattle.imgproc.specs.Reach.{low, high, ceiling}
-use Rattle.imgproc.specs.Grid.{tilesX, tilesY, tileFrom, tileTo, around}
+use Rattle.imgproc.specs.Grid.{tilesX, tilesY, tileFrom, tileTo, around, least, most, skipOf}
 use Rattle.imgproc.specs.Extremes.{Near, Between, Inside, Some}
 
 -- ---- tile counts
@@ -32,6 +36,13 @@ ceiling-small n t T = omega (arith, div-lt-iff-lt-mul {k = t} {x = n + t - 1} {y
 
 pub ceiling-some : (n t : ℕ) → 0 < t → 0 < n → 0 < ceiling n t
 ceiling-some n t T N = le-div-iff-mul-le {k = t} {x = 1} {y = n + t - 1} T .1 (omega arith)
+
+-- ---- skips
+
+-- a contrast floor of 0 never skips, whatever the picture
+pub floor-0 : (g : TileThresholdConfig) (w h : ℕ) (p : List ℕ) (i j : ℕ) → g .«contrast_floor» ≡ 0 → skipOf g w h p i j ≡ false
+unfolding skipOf
+floor-0 g w h p i j z = rw z (le-ltb (most (pixel p w) (around g w h i j) - least (pixel p w) (around g w h i j)) 0 (omega arith))
 
 -- ---- which pixels
 

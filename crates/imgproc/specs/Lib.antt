@@ -29,6 +29,8 @@ pub mod Reading
 pub mod ReadingSteps
 pub mod ReadingLaws
 pub mod ReadingMeans
+pub mod ReadingLeaves
+pub mod RefusedExactly
 pub mod Cases
 pub mod PicturesSauvola
 pub mod PicturesGrid

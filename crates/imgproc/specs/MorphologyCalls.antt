@@ -4,18 +4,17 @@ use mathlib.Core.Path.{_≡_}
 use mathlib.Core.List.{List}
 use lib.ListN.{length}
 use Rattle.image.specs.declared.Geometry.{Geometry}
+use Rattle.image.specs.Answers.{Answer, accepted, refused}
 use Rattle.image.specs.Layout.{Kept}
 use Rattle.image.specs.Plane.{painted, part, picture}
-use Rattle.imgproc.specs.declared.Check.{Check}
-use Rattle.imgproc.specs.declared.Check.the-variants.{Accepted, Refused}
 use Rattle.imgproc.specs.declared.morphology.Operation.{Operation}
 use Rattle.imgproc.specs.declared.morphology.Operation.the-variants.{Erode, Dilate, Open, Close}
 use Rattle.imgproc.specs.declared.morphology.Compared.{Compared}
 use Rattle.imgproc.specs.declared.morphology.Compared.the-variants.{Comparisons, Refused as Compared·Refused}
 use Rattle.imgproc.specs.declared.tally.Tally.{Tally}
 use Rattle.imgproc.specs.Reach.{sweepWalks, R}
-use Rattle.imgproc.specs.Refusals.{kernelAndRoom}
-use Rattle.imgproc.specs.Calls.{Loan, Left, Serves}
+use Rattle.imgproc.specs.Refusals.{errorNumber, kernelAndRoom}
+use Rattle.imgproc.specs.Calls.{Operator}
 use Rattle.imgproc.specs.Morphology.{eroded, dilated, opened, closed}
 
 -- the packed picture that an operation makes
@@ -39,14 +38,14 @@ operationR Dilate k w h = R k w h
 operationR Open k w h = 2 * R k w h
 operationR Close k w h = 2 * R k w h
 
--- the answer of a call that counts: its comparisons, or the refusal
-abbrev pub compared : Check → ℕ → Compared
-compared Accepted n = Comparisons (record { comparisons = n })
-compared (Refused e) n = Compared·Refused e
+-- what `Compared` says: the comparisons, or the number of the refusal
+abbrev pub comparedAnswer : Compared → Answer ℕ
+comparedAnswer (Comparisons t) = accepted (t .comparisons)
+comparedAnswer (Compared·Refused e) = refused (errorNumber e)
 
--- the contract of a morphology call, whose settings are its kernel
-abbrev pub Applies : Operation → Loan ℕ → Compared → Left → Type 0
-Applies operation = Serves kernelAndRoom (λ k g check. compared check (operationWalks operation k (g .width) (g .height))) (operated operation)
+-- a morphology call, whose settings are its kernel: its conditions, its comparisons and the picture that it makes
+abbrev pub morphology : Operation → Operator ℕ ℕ
+morphology operation = record { own = kernelAndRoom; values = operationWalks operation; make = operated operation }
 
 -- ---- inside: what the parts of an accepted call ask and leave
 

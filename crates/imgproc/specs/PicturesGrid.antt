@@ -4,17 +4,16 @@ use mathlib.Core.List.{List, [], _∷_}
 use Prim.Native.Nat.{ℕ}
 use lib.IntN.{ℤ, pos, negsuc}
 use lib.Ieee.{binary64, ofBits}
-use Rattle.imgproc.specs.declared.Check.{Check}
-use Rattle.imgproc.specs.declared.Check.the-variants.{Accepted, Refused}
 use Rattle.imgproc.specs.declared.grid.TileThresholdConfig.{TileThresholdConfig}
 use Rattle.imgproc.specs.declared.grid.TileThresholdGrid.{TileThresholdGrid}
 use Rattle.imgproc.specs.declared.grid.TileThresholdMethod.{TileThresholdMethod}
 use Rattle.imgproc.specs.declared.grid.TileThresholdMethod.the-variants.{Midrange, Sauvola}
 use Rattle.imgproc.specs.Cases.{Case, _gives_}
 use Rattle.imgproc.specs.Grid.{thresholds, skips}
-use Rattle.imgproc.specs.GridCalls.{gridSettingsCheck, queryCheck, tileOf, allSkipped}
+use Rattle.imgproc.specs.GridCalls.{gridSettings, queryConditions, tileOf, allSkipped}
 use Rattle.imgproc.specs.Fold.{bit}
-use Rattle.imgproc.specs.Refusals.{errorNumber}
+use Rattle.imgproc.specs.Refusals.{Conditions, first, answerBy}
+use Rattle.image.specs.Answers.{answerNumber, bare}
 
 -- a list of one number
 abbrev pub one : ℕ → List ℕ
@@ -32,14 +31,15 @@ tiles t r = record { «tile_width» = t; «tile_height» = t; «neighborhood_rad
 abbrev pub floats : ℕ → ℕ → TileThresholdMethod
 floats k range = Sauvola (record { k = ofBits binary64 k; «dynamic_range» = ofBits binary64 range })
 
--- the number of a check, and 0 of one that is passed
-abbrev pub checkNumber : Check → ℕ
-checkNumber Accepted = 0
-checkNumber (Refused e) = errorNumber e
+-- the number of the first condition that fits, and 0 of none
+unfoldable pub firstNumber : Conditions → ℕ
+unfolding first
+firstNumber cs = answerNumber (answerBy (first cs) bare)
 
 -- the number of settings with the given tile sides and method
-abbrev pub settingsNumber : ℕ → ℕ → TileThresholdMethod → ℕ
-settingsNumber width height method = checkNumber (gridSettingsCheck (record { «tile_width» = width; «tile_height» = height; «neighborhood_radius» = 1; method = method; «threshold_offset» = pos 0; «contrast_floor» = 12 }))
+unfoldable pub settingsNumber : ℕ → ℕ → TileThresholdMethod → ℕ
+unfolding firstNumber gridSettings
+settingsNumber width height method = firstNumber (gridSettings (record { «tile_width» = width; «tile_height» = height; «neighborhood_radius» = 1; method = method; «threshold_offset» = pos 0; «contrast_floor» = 12 }))
 
 -- a grid of tiles of 16 by 8 over a picture of 40 by 20
 abbrev pub asked : ℕ → ℕ → TileThresholdGrid
@@ -47,6 +47,7 @@ asked x y = record { width = 40; height = 20; «tile_width» = 16; «tile_height
 
 -- the table
 unfoldable pub gridPictures : List Case
+unfolding firstNumber settingsNumber
 gridPictures =
     -- ★ part 5
     (thresholds (gridOf Midrange (pos 0) 12) 2 1 (0 ∷ 255 ∷ []) gives one 127) ∷
@@ -76,8 +77,8 @@ gridPictures =
     (settingsNumber 1 1 (floats 0x7ff0_0000_0000_0000 1) ∷ settingsNumber 1 1 (floats 0xfff0_0000_0000_0000 1) ∷ settingsNumber 1 1 (floats 0x7ff8_0000_0000_0000 1) ∷ [] gives 7 ∷ 7 ∷ 7 ∷ []) ∷
     (settingsNumber 1 1 (floats 0 0) ∷ settingsNumber 1 1 (floats 0 0x8000_0000_0000_0000) ∷ settingsNumber 1 1 (floats 0 0x7ff0_0000_0000_0000) ∷ settingsNumber 1 1 (floats 0 0x7ff8_0000_0000_0000) ∷ settingsNumber 1 1 (floats 0 0xbff0_0000_0000_0000) ∷ [] gives 7 ∷ 7 ∷ 7 ∷ 7 ∷ 7 ∷ []) ∷
     (settingsNumber 1 1 (floats 0xbff0_0000_0000_0000 1) ∷ [] gives one 0) ∷
-    -- questions: counts that are not the ceilings before a short buffer before a place outside; 3 by 3 tiles
-    (checkNumber (queryCheck (asked 3 2) 0 false) ∷ checkNumber (queryCheck (asked 3 3) 8 false) ∷ checkNumber (queryCheck (asked 3 3) 9 false) ∷ checkNumber (queryCheck (asked 3 3) 9 true) ∷ [] gives 7 ∷ 10 ∷ 9 ∷ 0 ∷ []) ∷
+    -- queries: counts that are not the ceilings before a short buffer before a place outside; 3 by 3 tiles
+    (firstNumber (queryConditions (asked 3 2) 0 false) ∷ firstNumber (queryConditions (asked 3 3) 8 false) ∷ firstNumber (queryConditions (asked 3 3) 9 false) ∷ firstNumber (queryConditions (asked 3 3) 9 true) ∷ [] gives 7 ∷ 10 ∷ 9 ∷ 0 ∷ []) ∷
     -- the tile of the last pixel, and of the pixel before a tile's start
     (tileOf (asked 3 3) 39 19 ∷ tileOf (asked 3 3) 31 8 ∷ [] gives 8 ∷ 4 ∷ []) ∷
     -- each byte but 0 is skipped

@@ -8,9 +8,8 @@ use Rattle.imgproc.specs.declared.grid.TileThresholdConfig.{TileThreshol
 use Rattle.imgproc.specs.declared.grid.TileThresholdMethod.the-variants.{Midrange}
 use Rattle.imgproc.specs.declared.threshold.SauvolaConfig.{SauvolaConfig}
 use Rattle.imgproc.specs.declared.reading.ReadingConfig.{ReadingConfig}
-use Rattle.imgproc.specs.declared.reading.ReadingCounts.{ReadingCounts}
 use Rattle.imgproc.specs.Sauvola.{sauvolaDefaults}
-use Rattle.imgproc.specs.Reading.{readingOf, marked}
+use Rattle.imgproc.specs.Reading.{ReadingNumbers, readingOf, marked}
 use Rattle.imgproc.specs.Cases.{Case, _gives_}
 
 -- tiles of t by t with a neighbourhood radius of 1 and a contrast floor
@@ -26,8 +25,8 @@ settings element m grid sauvola = record {
   sauvola = sauvola;
 }
 
-abbrev pub counts : ReadingCounts → List ℕ
-counts r = r .dark ∷ r .light ∷ r .skipped ∷ r .tally .comparisons ∷ []
+abbrev pub counts : ReadingNumbers → List ℕ
+counts r = r .dark ∷ r .light ∷ r .skipped ∷ r .comparisons ∷ []
 
 -- 6 by 4 at a stride of 8
 abbrev pub shaded : List ℕ

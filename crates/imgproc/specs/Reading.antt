@@ -6,6 +6,7 @@ use lib.Dec.{ltb}
 use mathlib.Core.List.{List}
 use lib.ListN.{length}
 use Rattle.image.specs.declared.Geometry.{Geometry}
+use Rattle.image.specs.Answers.{Answer, accepted, refused}
 use Rattle.image.specs.Plane.{plane, painted, picture}
 use Rattle.imgproc.specs.declared.reading.ReadingConfig.{ReadingConfig}
 use Rattle.imgproc.specs.declared.reading.ReadingCounts.{ReadingCounts}
@@ -13,16 +14,18 @@ use Rattle.imgproc.specs.declared.judging.Judgement.{Judgement}
 use Rattle.imgproc.specs.declared.judging.Judgement.the-variants.{Dark, Light, Skipped}
 use Rattle.imgproc.specs.declared.reading.Read.{Read}
 use Rattle.imgproc.specs.declared.reading.Read.the-variants.{Counts, Refused as Read·Refused}
-use Rattle.imgproc.specs.declared.Check.{Check}
-use Rattle.imgproc.specs.declared.Check.the-variants.{Accepted, Refused}
+use Rattle.imgproc.specs.declared.grid.TileThresholdConfig.{TileThresholdConfig}
 use Rattle.imgproc.specs.declared.ImgProcError.the-variants.{InvalidKernel, WorkspaceTooSmall}
 use Rattle.imgproc.specs.declared.threshold.SauvolaConfig.{SauvolaConfig}
 use Rattle.imgproc.specs.Reach.{R, walk}
 use Rattle.imgproc.specs.Morphology.{sweptRect, opened}
 use Rattle.imgproc.specs.Division.{divided}
 use Rattle.imgproc.specs.Grid.{skipOf}
-use Rattle.imgproc.specs.Refusals.{_then_, refusedIf, pairCheck, badKernel, divisionSettings, sauvolaSettings, tableEntries, leftBy, Lent}
-use Rattle.imgproc.specs.GridCalls.{gridSettingsCheck, tileCount}
+use Rattle.imgproc.specs.Refusals.{
+  errorNumber, Conditions, first, refusedIf, _then_, answerBy, leftBy, Lent, pairConditions, badKernel, divisionSettings, sauvolaSettings,
+  tableEntries,
+}
+use Rattle.imgproc.specs.GridCalls.{gridSettings, tileCount}
 use Rattle.imgproc.specs.Sauvola.{atOrBelow}
 
 -- which of the three a judgement is
@@ -65,14 +68,21 @@ pixels w h test = walk (λ i. test (i % w) (i / w)) (w * h)
 abbrev pub comparisonsOf : ReadingConfig → ℕ → ℕ → ℕ
 comparisonsOf s w h = 2 * R (s .division .«structuring_element») w h + 2 * R (s .«opening_kernel») w h
 
--- the four counts of a reading
-unfoldable pub readingOf : ReadingConfig → ℕ → ℕ → List ℕ → ReadingCounts
+-- the four numbers of a reading
+pub record ReadingNumbers : Type 0 where
+  pub dark : ℕ
+  pub light : ℕ
+  pub skipped : ℕ
+  pub comparisons : ℕ
+
+-- how many pixels are judged dark, light and skipped, and the comparisons
+unfoldable pub readingOf : ReadingConfig → ℕ → ℕ → List ℕ → ReadingNumbers
 unfolding judged pixels R
 readingOf s w h p = record {
   dark = pixels w h (λ x y. isDark (judged s w h p x y));
   light = pixels w h (λ x y. isLight (judged s w h p x y));
   skipped = pixels w h (λ x y. isSkipped (judged s w h p x y));
-  tally = record { comparisons = comparisonsOf s w h };
+  comparisons = comparisonsOf s w h;
 }
 
 -- the byte of a judgement: a skipped pixel gets light_value
@@ -86,34 +96,30 @@ unfoldable pub marked : ReadingConfig → ℕ → ℕ → List ℕ → List ℕ
 unfolding judged plane
 marked s w h p = plane w h (λ x y. byteOf (s .sauvola) (judged s w h p x y))
 
--- ---- what is turned back
+-- ---- what is refused, answered and left
 
 -- the division's settings 7; m 6; the grid's 7; the threshold's 7
-abbrev pub readingSettings : ReadingConfig → Check
+unfoldable pub readingSettings : ReadingConfig → Conditions
 readingSettings s =
     divisionSettings (s .division) then
     refusedIf (badKernel (s .«opening_kernel»)) InvalidKernel then
-    gridSettingsCheck (s .grid) then
+    gridSettings (s .grid) then
     sauvolaSettings (s .sauvola)
 
--- bytes under 9wh + 2t, or u64s under 2(w + 1)(h + 1) + 5t
-abbrev pub readingRoom : Geometry → ReadingConfig → ℕ → ℕ → Check
+-- the bytes that a reading asks for: 9wh + 2t
+abbrev pub readingBytes : TileThresholdConfig → ℕ → ℕ → ℕ
+readingBytes grid w h = 9 * (w * h) + 2 * tileCount grid w h
+
+-- and the u64s: 2(w + 1)(h + 1) + 5t
+abbrev pub readingWords : TileThresholdConfig → ℕ → ℕ → ℕ
+readingWords grid w h = tableEntries w h + 5 * tileCount grid w h
+
+-- either workspace too short
+abbrev pub readingRoom : Geometry → ReadingConfig → ℕ → ℕ → Conditions
 readingRoom g s bytes words =
     refusedIf
-    (ltb bytes (9 * (g .width * g .height) + 2 * tileCount (s .grid) (g .width) (g .height)) || ltb words (tableEntries (g .width) (g .height) + 5 * tileCount (s .grid) (g .width) (g .height)))
+    (ltb bytes (readingBytes (s .grid) (g .width) (g .height)) || ltb words (readingWords (s .grid) (g .width) (g .height)))
     WorkspaceTooSmall
-
--- Reading: the layouts; 5; the settings; the workspaces
-abbrev pub readingCheck : ℕ → Geometry → ℕ → Geometry → ReadingConfig → ℕ → ℕ → Check
-readingCheck srcLen src dstLen dst s bytes words =
-    pairCheck srcLen src dstLen dst then
-    readingSettings s then
-    readingRoom src s bytes words
-
--- the answer of a reading: its four counts, or the refusal
-abbrev pub readBy : Check → ReadingCounts → Read
-readBy Accepted r = Counts r
-readBy (Refused e) r = Read·Refused e
 
 -- what a reading is lent
 pub record ReadingLent : Type 0 where
@@ -131,20 +137,40 @@ pub record ReadingLeft : Type 0 where
   pub bytes : List ℕ
   pub words : List ℕ
 
-abbrev pub readingCheckOf : ReadingLent → Check
-readingCheckOf lent = readingCheck (length (lent .src)) (lent .source) (length (lent .dst)) (lent .target) (lent .settings) (length (lent .bytes)) (length (lent .words))
+-- what `Read` says: the four numbers, or the number of the refusal
+abbrev pub numbersOf : ReadingCounts → ReadingNumbers
+numbersOf c = record { dark = c .dark; light = c .light; skipped = c .skipped; comparisons = c .tally .comparisons }
 
--- the counts of what was lent, and its marks in the destination's rows
-abbrev pub countsOf : ReadingLent → ReadingCounts
-countsOf lent = let g = lent .source in readingOf (lent .settings) (g .width) (g .height) (picture (lent .src) g)
+abbrev pub readAnswer : Read → Answer ReadingNumbers
+readAnswer (Counts c) = accepted (numbersOf c)
+readAnswer (Read·Refused e) = refused (errorNumber e)
 
-abbrev pub marksOf : ReadingLent → List ℕ
-marksOf lent =
-    let g = lent .source in painted (marked (lent .settings) (g .width) (g .height) (picture (lent .src) g)) (g .width) (g .height) (lent .target .stride) (lent .dst)
+-- what a reading with settings that are checked by a list of their own is refused for: the layouts; 5; the settings; the workspaces
+abbrev pub readingConditionsBy : Conditions → ReadingLent → Conditions
+readingConditionsBy settings lent =
+    pairConditions (length (lent .src)) (lent .source) (length (lent .dst)) (lent .target) then
+    settings then
+    readingRoom (lent .source) (lent .settings) (length (lent .bytes)) (length (lent .words))
 
--- the contract of a reading: its answer, the destination's bytes, and both workspaces
-pub record Reads (lent : ReadingLent) (answer : Read) (left : ReadingLeft) : Type 0 where
-  pub answers : answer ≡ readBy (readingCheckOf lent) (countsOf lent)
-  pub leaves : left .dst ≡ leftBy (readingCheckOf lent) (marksOf lent) (lent .dst)
-  pub bytes-left : Lent (readingCheckOf lent) (lent .bytes) (left .bytes)
-  pub words-left : Lent (readingCheckOf lent) (lent .words) (left .words)
+abbrev pub readingConditions : ReadingLent → Conditions
+readingConditions lent = readingConditionsBy (readingSettings (lent .settings)) lent
+
+-- the numbers of what was lent, and its marks in the destination's rows
+abbrev pub numbersFrom : ReadingLent → ReadingNumbers
+numbersFrom lent = let g = lent .source in readingOf (lent .settings) (g .width) (g .height) (picture (lent .src) g)
+
+abbrev pub marksFrom : ReadingLent → List ℕ
+marksFrom lent =
+    let g = lent .source in
+    painted (marked (lent .settings) (g .width) (g .height) (picture (lent .src) g)) (g .width) (g .height) (lent .target .stride) (lent .dst)
+
+-- a reading by a list of conditions: its answer, the destination's bytes, and both workspaces
+pub record ReadsBy (cs : Conditions) (lent : ReadingLent) (answer : Answer ReadingNumbers) (left : ReadingLeft) : Type 0 where
+  pub answers : answer ≡ answerBy (first cs) (numbersFrom lent)
+  pub leaves : left .dst ≡ leftBy (first cs) (marksFrom lent) (lent .dst)
+  pub bytes-left : Lent (first cs) (lent .bytes) (left .bytes)
+  pub words-left : Lent (first cs) (lent .words) (left .words)
+
+-- the contract of a reading
+abbrev pub Reads : ReadingLent → Answer ReadingNumbers → ReadingLeft → Type 0
+Reads lent = ReadsBy (readingConditions lent) lent

@@ -50,6 +50,15 @@ unfolding walk
 no-walk test zero h = refl
 no-walk test (suc n) h = let z : bit (test n) ≡ 0 = ap bit (h n (omega arith)) in let w = no-walk test n (λ i l. h i (omega arith)) in omega arith
 
+-- tests that agree on every pixel count the same pixels, and one that none passes counts none
+pub pixels-same : (w h : ℕ) (a b : ℕ → ℕ → Bool) → ((x y : ℕ) → a x y ≡ b x y) → pixels w h a ≡ pixels w h b
+unfolding pixels
+pixels-same w h a b e = same-walk (λ i. a (i % w) (i / w)) (λ i. b (i % w) (i / w)) (w * h) (λ i l. e (i % w) (i / w))
+
+pub pixels-empty : (w h : ℕ) (test : ℕ → ℕ → Bool) → ((x y : ℕ) → test x y ≡ false) → pixels w h test ≡ 0
+unfolding pixels
+pixels-empty w h test e = no-walk (λ i. test (i % w) (i / w)) (w * h) (λ i l. e (i % w) (i / w))
+
 -- dark is 0 exactly when no pixel is judged dark
 pub none-dark : (s : ReadingConfig) (w h : ℕ) (p : List ℕ) → readingOf s w h p .dark ≡ 0 → (x y : ℕ) → x < w → y < h → isDark (judged s w h p x y) ≡ false
 unfolding readingOf pixels

@@ -1,196 +1,219 @@
--- What a reading means, drawn from its contract alone: which pixels are judged dark, what each byte of the destination holds afterwards,
--- that nothing but settings and pixels counts, and that a refused one keeps every byte. Assumes nothing.
-use Prim.Native.Nat.{ℕ, _+_, _*_, _/_, _%_, _≤_, _<_}
+-- What an accepted reading means, drawn from its contract alone: which pixels are judged dark, light and skipped, that each count is the
+-- number of just those pixels, and whose comparisons are reported. (What it leaves stands in ReadingLeaves, what a refused reading means
+-- in RefusedExactly.) Assumes nothing.
+use Prim.Native.Nat.{ℕ, _+_, _*_, _/_, _≤_, _<_}
 use native.Mathlib.Omega.{arith}
-use mathlib.Core.Path.{_≡_, refl, sym, ap, subst, _∙_}
-use mathlib.Core.Bool.{Bool, true, false, cond, _&&_}
+use mathlib.Core.Path.{_≡_, refl, sym, ap, ap₂, _∙_}
+use mathlib.Core.Bool.{Bool, true, false, cond, not, _&&_}
 use mathlib.Core.Logic.{_↔_}
 use mathlib.Core.List.{List}
-use lib.Dec.{ltb, leb}
-use lib.ListN.{length, getD}
-use borrow.Author.Tests.{ltb-true, leb-true, le-leb}
-use Rattle.image.specs.declared.Geometry.{Geometry}
-use Rattle.image.specs.LayoutLaws.{row-within}
-use Rattle.image.specs.Plane.{pixel, packed, painted, picture}
-use Rattle.image.specs.PlaneLaws.{pixel-plane}
-use Rattle.image.specs.PaintLaws.{length-painted, painted-byte, painted-pixel}
+use lib.Dec.{leb}
+use lib.ListN.{length}
+use borrow.Author.Tests.{leb-true, leb-false, le-leb, lt-leb}
+use Rattle.image.specs.Answers.{accepted}
+use Rattle.image.specs.Plane.{pixel, picture}
 use Rattle.imgproc.specs.declared.reading.ReadingConfig.{ReadingConfig}
-use Rattle.imgproc.specs.declared.reading.ReadingCounts.{ReadingCounts}
 use Rattle.imgproc.specs.declared.judging.Judgement.{Judgement}
 use Rattle.imgproc.specs.declared.judging.Judgement.the-variants.{Dark, Light, Skipped}
-use Rattle.imgproc.specs.declared.reading.Read.the-variants.{Counts, Refused as Read·Refused}
-use Rattle.imgproc.specs.declared.ImgProcError.{ImgProcError}
+use Rattle.imgproc.specs.declared.morphology.Operation.the-variants.{Open, Close}
 use Rattle.imgproc.specs.declared.ImgProcError.the-variants.{InvalidKernel}
-use Rattle.imgproc.specs.declared.Check.{Check}
-use Rattle.imgproc.specs.declared.Check.the-variants.{Accepted, Refused}
-use Rattle.imgproc.specs.Refusals.{_then_, refusedIf, pairCheck, badKernel, divisionSettings, sauvolaSettings, leftBy, Lent}
-use Rattle.imgproc.specs.RefusalLaws.{both-accepted, not-refused, kernel-says, division-says, Pair, pair-says}
+use Rattle.imgproc.specs.declared.Check.the-variants.{Accepted}
+use Rattle.imgproc.specs.Reach.{R}
+use Rattle.imgproc.specs.Refusals.{first, _then_, refusedIf, pairConditions, badKernel, divisionSettings, sauvolaSettings}
+use Rattle.imgproc.specs.RefusalLaws.{both-accepted, taken, not-refused, kernel-says, division-says, Pair, pair-says}
+use Rattle.imgproc.specs.Calls.{Loan, Left, Serves, conditionsOf}
+use Rattle.imgproc.specs.MorphologyCalls.{morphology}
+use Rattle.imgproc.specs.MorphologyLaws.{operation-walks}
 use Rattle.imgproc.specs.Grid.{skipOf}
-use Rattle.imgproc.specs.GridCalls.{gridSettingsCheck}
+use Rattle.imgproc.specs.GridLaws.{floor-0}
+use Rattle.imgproc.specs.GridCalls.{gridSettings}
 use Rattle.imgproc.specs.Sauvola.{thresholdAt, atOrBelow}
-use Rattle.imgproc.specs.Reading.{openedOf, judgedOver, judged, comparisonsOf, readingOf, byteOf, marked, readingSettings, readingRoom, readingCheck, readBy, Reads}
-use Rattle.imgproc.specs.ReadingLaws.{adds-up, comparisons-below, same-pixels}
+use Rattle.imgproc.specs.Reading.{
+  isDark, isLight, isSkipped, openedOf, judgedOver, judged, pixels, comparisonsOf, ReadingNumbers, readingOf, readingSettings, readingRoom,
+  ReadingLent, ReadingLeft, readingConditions, numbersFrom, Reads,
+}
+use Rattle.imgproc.specs.ReadingLaws.{adds-up, comparisons-below, pixels-same, pixels-empty}
 
-chosen : (a b : Bool) → cond a Skipped (cond b Dark Light) ≡ Dark → (a ≡ false) × (b ≡ true)
-chosen true b p = let z : _≡_ {A = ℕ} 0 1 = cc in absurd (omega arith)
-chosen false true p = (refl, refl)
-chosen false false p = let z : _≡_ {A = ℕ} 0 1 = cc in absurd (omega arith)
+-- ---- the judgement of a pixel
 
--- a pixel is judged dark exactly when its tile is not skipped and its flattened, opened value is at most the directly summed threshold
-pub dark-exactly :
-    (s : ReadingConfig) (w h : ℕ) (p : List ℕ) (x y : ℕ)
-    → (judged s w h p x y ≡ Dark)
-    ↔ ((skipOf (s .grid) w h (openedOf s w h p) (x / s .grid .«tile_width») (y / s .grid .«tile_height») ≡ false)
-    × (pixel (openedOf s w h p) w x y ≤ thresholdAt (s .sauvola) w h (openedOf s w h p) x y))
-unfolding judged judgedOver atOrBelow
-dark-exactly s w h p x y =
-    let o = openedOf s w h p in
-    let skipped = skipOf (s .grid) w h o (x / s .grid .«tile_width») (y / s .grid .«tile_height») in
-    let below = leb (pixel o w x y) (thresholdAt (s .sauvola) w h o x y) in (
-      λ d. let c = chosen skipped below d in (c .0, leb-true _ _ (c .1)),
-      λ c. ap (λ (a : Bool). cond a Skipped (cond below Dark Light)) (c .0) ∙ ap (λ (b : Bool). cond b Dark Light) (le-leb _ _ (c .1)),
-    )
+-- the tile of pixel (x, y) is skipped
+abbrev pub skipHere : ReadingConfig → ℕ → ℕ → List ℕ → ℕ → ℕ → Bool
+skipHere s w h p x y = skipOf (s .grid) w h (openedOf s w h p) (x / s .grid .«tile_width») (y / s .grid .«tile_height»)
 
--- an accepted reading with the settings s: what was lent to it, its counts, and what it left
-pub record AcceptedReading (s : ReadingConfig) : Type 0 where
-  pub src : List ℕ
-  pub source : Geometry
-  pub dst : List ℕ
-  pub target : Geometry
-  pub bytes : List ℕ
-  pub words : List ℕ
-  pub counts : ReadingCounts
-  pub dst′ : List ℕ
-  pub bytes′ : List ℕ
-  pub words′ : List ℕ
-  pub reads : Reads (record { src = src; source = source; dst = dst; target = target; settings = s; bytes = bytes; words = words }) (Counts counts) (record { dst = dst′; bytes = bytes′; words = words′ })
+-- its flattened, opened value
+abbrev pub valueHere : ReadingConfig → ℕ → ℕ → List ℕ → ℕ → ℕ → ℕ
+valueHere s w h p x y = pixel (openedOf s w h p) w x y
 
-taken : (c : Check) {r q : ReadingCounts} → Counts r ≡ readBy c q → (c ≡ Accepted) × (r ≡ q)
-taken Accepted {r} {q} p = (refl, cc)
-taken (Refused e) p = let z : _≡_ {A = ℕ} 0 1 = cc in absurd (omega arith)
+-- the directly summed Sauvola threshold there
+abbrev pub thresholdHere : ReadingConfig → ℕ → ℕ → List ℕ → ℕ → ℕ → ℕ
+thresholdHere s w h p x y = thresholdAt (s .sauvola) w h (openedOf s w h p) x y
 
-module _ {s : ReadingConfig} (a : AcceptedReading s) where
+-- a choice of three, each by its tests
+chosen-dark : (a b : Bool) → cond a Skipped (cond b Dark Light) ≡ Dark → (a ≡ false) × (b ≡ true)
+chosen-dark true b p = let z : _≡_ {A = ℕ} 0 1 = cc in absurd (omega arith)
+chosen-dark false true p = (refl, refl)
+chosen-dark false false p = let z : _≡_ {A = ℕ} 0 1 = cc in absurd (omega arith)
+
+chosen-light : (a b : Bool) → cond a Skipped (cond b Dark Light) ≡ Light → (a ≡ false) × (b ≡ false)
+chosen-light true b p = let z : _≡_ {A = ℕ} 0 1 = cc in absurd (omega arith)
+chosen-light false true p = let z : _≡_ {A = ℕ} 0 1 = cc in absurd (omega arith)
+chosen-light false false p = (refl, refl)
+
+chosen-skipped : (a b : Bool) → cond a Skipped (cond b Dark Light) ≡ Skipped → a ≡ true
+chosen-skipped true b p = refl
+chosen-skipped false true p = let z : _≡_ {A = ℕ} 0 1 = cc in absurd (omega arith)
+chosen-skipped false false p = let z : _≡_ {A = ℕ} 0 1 = cc in absurd (omega arith)
+
+tests-dark : (a b : Bool) → isDark (cond a Skipped (cond b Dark Light)) ≡ (not a && b)
+tests-dark true b = refl
+tests-dark false true = refl
+tests-dark false false = refl
+
+tests-light : (a b : Bool) → isLight (cond a Skipped (cond b Dark Light)) ≡ (not a && not b)
+tests-light true b = refl
+tests-light false true = refl
+tests-light false false = refl
+
+tests-skipped : (a b : Bool) → isSkipped (cond a Skipped (cond b Dark Light)) ≡ a
+tests-skipped true b = refl
+tests-skipped false true = refl
+tests-skipped false false = refl
+
+module _ (s : ReadingConfig) (w h : ℕ) (p : List ℕ) (x y : ℕ) where
+  below : Bool
+  below = leb (valueHere s w h p x y) (thresholdHere s w h p x y)
+
+  judged-by : judged s w h p x y ≡ cond (skipHere s w h p x y) Skipped (cond below Dark Light)
+  unfolding judged judgedOver atOrBelow below
+  judged-by = refl
+
+  -- a pixel is judged dark exactly when its tile is not skipped and its flattened, opened value is at most the directly summed threshold
+  pub dark-exactly : (judged s w h p x y ≡ Dark) ↔ ((skipHere s w h p x y ≡ false) × (valueHere s w h p x y ≤ thresholdHere s w h p x y))
+  unfolding below
+  dark-exactly = (
+    λ d. let c = chosen-dark (skipHere s w h p x y) below (sym judged-by ∙ d) in (c .0, leb-true _ _ (c .1)),
+    λ c. judged-by ∙ rw (c .0, le-leb _ _ (c .1)),
+  )
+
+  -- light exactly when its tile is not skipped and that value is above that threshold
+  pub light-exactly : (judged s w h p x y ≡ Light) ↔ ((skipHere s w h p x y ≡ false) × (thresholdHere s w h p x y < valueHere s w h p x y))
+  unfolding below
+  light-exactly = (
+    λ d. let c = chosen-light (skipHere s w h p x y) below (sym judged-by ∙ d) in (c .0, leb-false _ _ (c .1)),
+    λ c. judged-by ∙ rw (c .0, lt-leb _ _ (c .1)),
+  )
+
+  -- skipped exactly when its tile is
+  pub skipped-exactly : (judged s w h p x y ≡ Skipped) ↔ (skipHere s w h p x y ≡ true)
+  skipped-exactly = (λ d. chosen-skipped (skipHere s w h p x y) below (sym judged-by ∙ d), λ c. judged-by ∙ rw c)
+
+-- ---- an accepted reading
+
+-- what was lent to it, its numbers, and what it left
+pub record AcceptedReading : Type 0 where
+  pub lent : ReadingLent
+  pub numbers : ReadingNumbers
+  pub left : ReadingLeft
+  pub reads : Reads lent (accepted numbers) left
+
+module _ (a : AcceptedReading) where
+  abbrev pub settingsOf : ReadingConfig
+  settingsOf = a .lent .settings
+
+  abbrev pub wide : ℕ
+  wide = a .lent .source .width
+
+  abbrev pub high : ℕ
+  high = a .lent .source .height
+
   -- its source, packed
-  abbrev pub pixelsOf : List ℕ
-  pixelsOf = packed (a .src) (a .source .width) (a .source .height) (a .source .stride)
+  abbrev pub sourceOf : List ℕ
+  sourceOf = picture (a .lent .src) (a .lent .source)
 
   -- pixel (x, y), as it was judged
   abbrev pub judgedHere : ℕ → ℕ → Judgement
-  judgedHere x y = judged s (a .source .width) (a .source .height) pixelsOf x y
+  judgedHere x y = judged settingsOf wide high sourceOf x y
 
-  check : Check
-  check = readingCheck (length (a .src)) (a .source) (length (a .dst)) (a .target) s (length (a .bytes)) (length (a .words))
+  pub said : (first (readingConditions (a .lent)) ≡ Accepted) × (a .numbers ≡ numbersFrom (a .lent))
+  said = taken (first (readingConditions (a .lent))) (a .reads .answers)
 
-  said : (check ≡ Accepted) × (a .counts ≡ readingOf s (a .source .width) (a .source .height) pixelsOf)
-  unfolding check
-  said = taken check (a .reads .answers)
-
-  parts : (pairCheck (length (a .src)) (a .source) (length (a .dst)) (a .target) ≡ Accepted) × (readingSettings s ≡ Accepted)
-  unfolding check
+  parts : (first (pairConditions (length (a .lent .src)) (a .lent .source) (length (a .lent .dst)) (a .lent .target)) ≡ Accepted)
+      × (first (readingSettings settingsOf) ≡ Accepted)
   parts =
-      let room = readingRoom (a .source) s (length (a .bytes)) (length (a .words)) in
-      let p = both-accepted (pairCheck (length (a .src)) (a .source) (length (a .dst)) (a .target)) (readingSettings s then room) (said .0) in
-      (p .0, both-accepted (readingSettings s) room (p .1) .0)
+      let room = readingRoom (a .lent .source) settingsOf (length (a .lent .bytes)) (length (a .lent .words)) in
+      let pairs = pairConditions (length (a .lent .src)) (a .lent .source) (length (a .lent .dst)) (a .lent .target) in
+      let p = both-accepted pairs (readingSettings settingsOf then room) (said .0) in (p .0, both-accepted (readingSettings settingsOf) room (p .1) .0)
 
-  pub pair : Pair (length (a .src)) (a .source) (length (a .dst)) (a .target)
-  pair = pair-says (length (a .src)) (a .source) (length (a .dst)) (a .target) (parts .0)
+  pub pair : Pair (length (a .lent .src)) (a .lent .source) (length (a .lent .dst)) (a .lent .target)
+  pair = pair-says (length (a .lent .src)) (a .lent .source) (length (a .lent .dst)) (a .lent .target) (parts .0)
+
+  -- ---- its numbers
 
   -- the four numbers are those of the judgements and of the comparisons
-  pub counts-are : a .counts ≡ readingOf s (a .source .width) (a .source .height) pixelsOf
-  counts-are = said .1
+  pub numbers-are : a .numbers ≡ readingOf settingsOf wide high sourceOf
+  numbers-are = said .1
+
+  -- dark is the number of pixels whose tile is not skipped and whose value is at most the threshold
+  pub dark-counted : a .numbers .dark
+      ≡ pixels wide high (λ x y. not (skipHere settingsOf wide high sourceOf x y) && leb (valueHere settingsOf wide high sourceOf x y) (thresholdHere settingsOf wide high sourceOf x y))
+  unfolding readingOf below
+  dark-counted =
+      ap (λ (n : ReadingNumbers). n .dark) numbers-are
+      ∙ pixels-same wide high _ _ (λ x y. ap isDark (judged-by settingsOf wide high sourceOf x y) ∙ tests-dark _ (below settingsOf wide high sourceOf x y))
+
+  -- light the number of those whose tile is not skipped and whose value is above it
+  pub light-counted : a .numbers .light
+      ≡ pixels wide high (λ x y. not (skipHere settingsOf wide high sourceOf x y) && not (leb (valueHere settingsOf wide high sourceOf x y) (thresholdHere settingsOf wide high sourceOf x y)))
+  unfolding readingOf below
+  light-counted =
+      ap (λ (n : ReadingNumbers). n .light) numbers-are
+      ∙ pixels-same wide high _ _ (λ x y. ap isLight (judged-by settingsOf wide high sourceOf x y) ∙ tests-light _ (below settingsOf wide high sourceOf x y))
+
+  -- skipped the number of those whose tile is skipped
+  pub skipped-counted : a .numbers .skipped ≡ pixels wide high (skipHere settingsOf wide high sourceOf)
+  unfolding readingOf
+  skipped-counted =
+      ap (λ (n : ReadingNumbers). n .skipped) numbers-are
+      ∙ pixels-same wide high _ _ (λ x y. ap isSkipped (judged-by settingsOf wide high sourceOf x y) ∙ tests-skipped _ (below settingsOf wide high sourceOf x y))
 
   -- the three counts add up to w × h
-  pub add-up : a .counts .dark + a .counts .light + a .counts .skipped ≡ a .source .width * a .source .height
-  add-up = rw (counts-are) (adds-up s (a .source .width) (a .source .height) pixelsOf)
+  pub add-up : a .numbers .dark + a .numbers .light + a .numbers .skipped ≡ wide * high
+  add-up = ap (λ (n : ReadingNumbers). n .dark + n .light + n .skipped) numbers-are ∙ adds-up settingsOf wide high sourceOf
 
-  kernels : (3 ≤ s .division .«structuring_element») × (3 ≤ s .«opening_kernel»)
+  -- a contrast floor of 0 never skips
+  pub floor-0-skips-none : settingsOf .grid .«contrast_floor» ≡ 0 → a .numbers .skipped ≡ 0
+  floor-0-skips-none z = skipped-counted ∙ pixels-empty wide high _ (λ x y. floor-0 (settingsOf .grid) wide high (openedOf settingsOf wide high sourceOf) _ _ z)
+
+  kernels : (3 ≤ settingsOf .division .«structuring_element») × (3 ≤ settingsOf .«opening_kernel»)
+  unfolding readingSettings
   kernels =
-      let last = gridSettingsCheck (s .grid) then sauvolaSettings (s .sauvola) in
-      let m = refusedIf (badKernel (s .«opening_kernel»)) InvalidKernel in
-      let p = both-accepted (divisionSettings (s .division)) (m then last) (parts .1) in
-      (division-says (s .division) (p .0) .0, kernel-says (s .«opening_kernel») (not-refused (badKernel (s .«opening_kernel»)) InvalidKernel (both-accepted m last (p .1) .0)))
+      let last = gridSettings (settingsOf .grid) then sauvolaSettings (settingsOf .sauvola) in
+      let m = refusedIf (badKernel (settingsOf .«opening_kernel»)) InvalidKernel in
+      let p = both-accepted (divisionSettings (settingsOf .division)) (m then last) (parts .1) in
+      let q = not-refused (badKernel (settingsOf .«opening_kernel»)) InvalidKernel (both-accepted m last (p .1) .0) in
+      (division-says (settingsOf .division) (p .0) .0, kernel-says (settingsOf .«opening_kernel») q)
 
   -- the comparisons are 2R(k) + 2R(m), below 24wh
-  pub compared : (a .counts .tally .comparisons ≡ comparisonsOf s (a .source .width) (a .source .height)) × (a .counts .tally .comparisons < 24 * (a .source .width * a .source .height))
+  pub compared : (a .numbers .comparisons ≡ comparisonsOf settingsOf wide high) × (a .numbers .comparisons < 24 * (wide * high))
   unfolding readingOf
   compared =
-      let e : a .counts .tally .comparisons ≡ comparisonsOf s (a .source .width) (a .source .height) = ap (λ (c : ReadingCounts). c .tally .comparisons) counts-are in
-      (e, omega (arith, comparisons-below s (a .source .width) (a .source .height) (pair .from .wide) (pair .from .high) (omega (arith, kernels .0)) (omega (arith, kernels .1))))
+      let e : a .numbers .comparisons ≡ comparisonsOf settingsOf wide high = ap (λ (n : ReadingNumbers). n .comparisons) numbers-are in
+      let below = comparisons-below settingsOf wide high (pair .from .wide) (pair .from .high) (omega (arith, kernels .0)) (omega (arith, kernels .1)) in
+      (e, omega (arith, below))
 
-  left : a .dst′ ≡ painted (marked s (a .source .width) (a .source .height) pixelsOf) (a .source .width) (a .source .height) (a .target .stride) (a .dst)
-  unfolding check
-  left = a .reads .leaves ∙ ap (λ (c : Check). leftBy c (painted (marked s (a .source .width) (a .source .height) pixelsOf) (a .source .width) (a .source .height) (a .target .stride) (a .dst)) (a .dst)) (said .0)
-
-  -- each pixel of the rows holds the byte of its judgement
-  pub pixel-holds : (x y : ℕ) → x < a .source .width → y < a .source .height → pixel (a .dst′) (a .target .stride) x y ≡ byteOf (s .sauvola) (judgedHere x y)
-  unfolding marked
-  pixel-holds x y X Y =
-      ap (λ (d : List ℕ). pixel d (a .target .stride) x y) left
-      ∙ painted-pixel _ (a .source .width) (a .source .height) (a .target .stride) (a .dst) x y X Y (omega (arith, pair .wide, pair .to .stride)) (omega (arith, pair .wide, row-within (pair .to) y (omega (arith, pair .high))))
-      ∙ pixel-plane (a .source .width) (a .source .height) (λ x y. byteOf (s .sauvola) (judgedHere x y)) x y X Y
-
-  -- one judged dark holds dark_value
-  pub dark-holds : (x y : ℕ) → x < a .source .width → y < a .source .height → judgedHere x y ≡ Dark → pixel (a .dst′) (a .target .stride) x y ≡ s .sauvola .«dark_value»
-  dark-holds x y X Y d = pixel-holds x y X Y ∙ ap (byteOf (s .sauvola)) d
-
-  -- every other one light_value
-  pub other-holds : (x y : ℕ) → x < a .source .width → y < a .source .height → (judgedHere x y ≡ Dark → ⊥) → pixel (a .dst′) (a .target .stride) x y ≡ s .sauvola .«light_value»
-  other-holds x y X Y n = pixel-holds x y X Y ∙ other (judgedHere x y) n
-    where
-      other : (j : Judgement) → (j ≡ Dark → ⊥) → byteOf (s .sauvola) j ≡ s .sauvola .«light_value»
-      other Dark n = absurd (n refl)
-      other Light n = refl
-      other Skipped n = refl
-
-  -- each byte outside the rows what it held, and there are as many
-  pub outside-holds : (i : ℕ) → i < length (a .dst) → ((i % a .target .stride < a .source .width) × (i / a .target .stride < a .source .height) → ⊥) → getD (a .dst′) i 0 ≡ getD (a .dst) i 0
-  outside-holds i l n =
-      ap (λ (d : List ℕ). getD d i 0) left
-      ∙ painted-byte _ (a .source .width) (a .source .height) (a .target .stride) (a .dst) i l
-      ∙ kept _ _ (ltb (i % a .target .stride) (a .source .width)) (ltb (i / a .target .stride) (a .source .height)) (λ t. n (ltb-true _ _ (t .0), ltb-true _ _ (t .1)))
-    where
-      kept : (b c : ℕ) (p q : Bool) → ((p ≡ true) × (q ≡ true) → ⊥) → cond (p && q) b c ≡ c
-      kept b c true true n = absurd (n (refl, refl))
-      kept b c true false n = refl
-      kept b c false q n = refl
-
-  pub as-long : length (a .dst′) ≡ length (a .dst)
-  as-long = ap length left ∙ length-painted _ (a .source .width) (a .source .height) (a .target .stride) (a .dst)
-
--- two accepted readings with equal settings, whose sources have the same pixels, agree on all four numbers and on every pixel of the rows:
--- strides, padding, tails, workspaces and destinations may differ
-module _ {s : ReadingConfig} (a b : AcceptedReading s) (wide : a .source .width ≡ b .source .width) (high : a .source .height ≡ b .source .height)
-    (same : (x y : ℕ) → x < a .source .width → y < a .source .height → pixel (a .src) (a .source .stride) x y ≡ pixel (b .src) (b .source .stride) x y) where
-  one-picture : pixelsOf a ≡ pixelsOf b
-  one-picture =
-      same-pixels (a .source .width) (a .source .height) (a .src) (b .src) (a .source .stride) (b .source .stride) (pair a .from .wide) same
-      ∙ rw (wide, high)
-
-  pub counts-agree : a .counts ≡ b .counts
-  counts-agree = counts-are a ∙ (rw (one-picture, wide, high)) ∙ sym (counts-are b)
-
-  pub rows-agree : (x y : ℕ) → x < a .source .width → y < a .source .height → pixel (a .dst′) (a .target .stride) x y ≡ pixel (b .dst′) (b .target .stride) x y
-  rows-agree x y X Y =
-      pixel-holds a x y X Y
-      ∙ (rw (one-picture, wide, high))
-      ∙ sym (pixel-holds b x y (omega arith) (omega arith))
-
--- a refused reading: the first condition that fits gives its refusal, and every lent byte is as it was
-module _ (src : List ℕ) (source : Geometry) (dst : List ℕ) (target : Geometry) (s : ReadingConfig) (bytes words : List ℕ) (e : ImgProcError) (dst′ bytes′ words′ : List ℕ)
-    (reads : Reads (record { src = src; source = source; dst = dst; target = target; settings = s; bytes = bytes; words = words }) (Read·Refused e) (record { dst = dst′; bytes = bytes′; words = words′ })) where
-  pub refused-by : readingCheck (length src) source (length dst) target s (length bytes) (length words) ≡ Refused e
-  refused-by = turned (readingCheck (length src) source (length dst) target s (length bytes) (length words)) _ (reads .answers)
-    where
-      turned : (c : Check) (q : ReadingCounts) → Read·Refused e ≡ readBy c q → c ≡ Refused e
-      turned Accepted q p = let z : _≡_ {A = ℕ} 0 1 = cc in absurd (omega arith)
-      turned (Refused f) q p = cc
-
-  pub refused-keeps : (dst′ ≡ dst) × ((bytes′ ≡ bytes) × (words′ ≡ words))
-  refused-keeps =
-      let after = painted (marked s (source .width) (source .height) (picture src source)) (source .width) (source .height) (target .stride) dst in (
-        reads .leaves ∙ ap (λ (c : Check). leftBy c after dst) refused-by,
-        (
-          subst (λ (c : Check). Lent c bytes bytes′) refused-by (reads .bytes-left),
-          subst (λ (c : Check). Lent c words words′) refused-by (reads .words-left),
-        ),
-      )
+  -- they are those of its two operations: what a closing with k and an opening with m of pictures of that size answer, together
+  pub compared-as-called :
+      {close opening : Loan ℕ} {closeLeft openLeft : Left} {c o : ℕ}
+      → Serves (morphology Close) close (accepted c) closeLeft
+      → Serves (morphology Open) opening (accepted o) openLeft
+      → close .settings ≡ settingsOf .division .«structuring_element»
+      → opening .settings ≡ settingsOf .«opening_kernel»
+      → (close .source .width ≡ wide) × (close .source .height ≡ high)
+      → (opening .source .width ≡ wide) × (opening .source .height ≡ high)
+      → a .numbers .comparisons ≡ c + o
+  compared-as-called {close} {opening} {c = c} {o = o} closed opened k m cs os =
+      let x : c ≡ 2 * R (settingsOf .division .«structuring_element») wide high =
+      taken (first (conditionsOf (morphology Close) close)) (closed .answers) .1 ∙ rw (k, cs .0, cs .1) (operation-walks Close (settingsOf .division .«structuring_element») wide high (omega (arith, kernels .0))) in
+      let y : o ≡ 2 * R (settingsOf .«opening_kernel») wide high =
+      taken (first (conditionsOf (morphology Open) opening)) (opened .answers) .1 ∙ rw (m, os .0, os .1) (operation-walks Open (settingsOf .«opening_kernel») wide high (omega (arith, kernels .1))) in
+      compared .0 ∙ ap₂ (λ (i j : ℕ). i + j) (sym x) (sym y)

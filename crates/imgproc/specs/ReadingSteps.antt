@@ -15,7 +15,7 @@ use Rattle.imgproc.specs.Grid.{tilesX, tilesY, skips}
 use Rattle.imgproc.specs.Refusals.{tableEntries}
 use Rattle.imgproc.specs.GridCalls.{tileCount}
 use Rattle.imgproc.specs.Tables.{InRange, Ready}
-use Rattle.imgproc.specs.Reading.{isDark, isLight, isSkipped, openedOf, judgedOver, pixels, readingOf, byteOf, marked}
+use Rattle.imgproc.specs.Reading.{isDark, isLight, isSkipped, openedOf, judgedOver, pixels, numbersOf, readingOf, byteOf, marked}
 
 -- the opened picture, packed, its skips as bytes, and its tables: what a judgement goes by
 pub record JudgeReady (o : List ℕ) (g : Geometry) (sk ws : List ℕ) (at : ℕ) (s : ReadingConfig) : Type 0 where
@@ -107,7 +107,7 @@ pub record ReadReady (src : List ℕ) (source : Geometry) (dst : List ℕ) (targ
   pub words-fit : tableEntries (source .width) (source .height) + 5 * tileCount (s .grid) (source .width) (source .height) ≤ length words
 
 pub record ReadDone (src : List ℕ) (source : Geometry) (dst : List ℕ) (target : Geometry) (s : ReadingConfig) (bytes words : List ℕ) (counts : ReadingCounts) (dst′ bytes′ words′ : List ℕ) : Type 0 where
-  pub counted : counts ≡ readingOf s (source .width) (source .height) (picture src source)
+  pub counted : numbersOf counts ≡ readingOf s (source .width) (source .height) (picture src source)
   pub leaves : dst′ ≡ painted (marked s (source .width) (source .height) (picture src source)) (source .width) (source .height) (target .stride) dst
   pub bytes-long : length bytes′ ≡ length bytes
   pub words-long : length words′ ≡ length words

@@ -4,9 +4,8 @@ use mathlib.Core.Bool.{Bool, cond}
 use mathlib.Core.List.{List}
 use lib.Dec.{leb}
 use Rattle.image.specs.declared.Geometry.{Geometry}
+use Rattle.image.specs.Answers.{Answer, accepted, refused, Bare, bare}
 use Rattle.image.specs.Plane.{pixel, plane, painted, picture}
-use Rattle.imgproc.specs.declared.Check.{Check}
-use Rattle.imgproc.specs.declared.Check.the-variants.{Accepted, Refused}
 use Rattle.imgproc.specs.declared.threshold.SauvolaConfig.{SauvolaConfig}
 use Rattle.imgproc.specs.declared.threshold.Binarized.{Binarized}
 use Rattle.imgproc.specs.declared.threshold.Binarized.the-variants.{Done, Refused as Binarized·Refused}
@@ -15,7 +14,7 @@ use Rattle.imgproc.specs.Reach.{low, high}
 use Rattle.imgproc.specs.Sums.{sum, sumSquares, count}
 use Rattle.imgproc.specs.WholeRoot.{wholeRoot}
 use Rattle.imgproc.specs.Refusals.{errorNumber, settingsAndRoom}
-use Rattle.imgproc.specs.Calls.{Loan, Left, Serves}
+use Rattle.imgproc.specs.Calls.{Operator}
 
 -- the Rust's defaults
 abbrev pub sauvolaDefaults : SauvolaConfig
@@ -68,21 +67,16 @@ unfoldable pub binarised : SauvolaConfig → ℕ → ℕ → List ℕ → List �
 unfolding plane verdict
 binarised config w h p = plane w h (verdict config w h p)
 
--- the answer of a call
-abbrev pub binarizedBy : Check → Binarized
-binarizedBy Accepted = Done
-binarizedBy (Refused e) = Binarized·Refused e
-
--- the number of an answer: 0 where the call is done, else its refusal's
-abbrev pub binarizedNumber : Binarized → ℕ
-binarizedNumber Done = 0
-binarizedNumber (Binarized·Refused e) = errorNumber e
+-- what `Binarized` says: a bare success, or the number of the refusal
+abbrev pub binarizedAnswer : Binarized → Answer Bare
+binarizedAnswer Done = accepted bare
+binarizedAnswer (Binarized·Refused e) = refused (errorNumber e)
 
 -- the destination after an accepted call: its rows hold the verdicts on the source
 abbrev pub binarisedInto : SauvolaConfig → List ℕ → Geometry → List ℕ → Geometry → List ℕ
 binarisedInto config src g dst d =
     painted (binarised config (g .width) (g .height) (picture src g)) (g .width) (g .height) (d .stride) dst
 
--- the contract of `sauvola_into`
-abbrev pub Binarizes : Loan SauvolaConfig → Binarized → Left → Type 0
-Binarizes = Serves settingsAndRoom (λ config g check. binarizedBy check) binarised
+-- `sauvola_into`: its conditions, a bare success, and the verdicts
+abbrev pub sauvola : Operator SauvolaConfig Bare
+sauvola = record { own = settingsAndRoom; values = λ config w h. bare; make = binarised }

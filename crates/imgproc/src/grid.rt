@@ -12,10 +12,10 @@ ghost use mathlib.Core.Path.{_≡_};
 ghost use Prim.Native.Nat.{_*_, _≤_, _<_};
 ghost use lib.ListN.{length};
 ghost use Rattle.image.specs.Layout.{Kept};
-ghost use Rattle.imgproc.specs.Refusals.{_then_};
+ghost use Rattle.imgproc.specs.Refusals.{first, _then_};
 ghost use Rattle.imgproc.specs.Grid.{gridDefaults, thresholds, skips};
 ghost use Rattle.imgproc.specs.Tiles.{Sized};
-ghost use Rattle.imgproc.specs.GridCalls.{usableMethod, gridSettingsCheck, tileCount, gridRoomCheck, Rooms, Fills, Builds, pixelPlace, rowPlace, thresholdAt, skipAt, rowSkip};
+ghost use Rattle.imgproc.specs.GridCalls.{usableMethod, gridSettings, tileCount, gridRoom, Rooms, Fills, Builds, builtAnswer, tileThresholdAnswer, tileSkipAnswer, thresholdAsked, skipAsked, rowSkipAsked};
 
 // The two settings of the grid's Sauvola threshold.
 pub struct SauvolaFloats {
@@ -88,7 +88,7 @@ fn usable_method(method: TileThresholdMethod) -> bool
 
 // Whether the settings of a grid are taken.
 pub(crate) fn check_settings(config: TileThresholdConfig) -> Check
-    ensures { λ r. ⌜ r ≡ gridSettingsCheck config ⌝ }
+    ensures { λ r. ⌜ r ≡ first (gridSettings config) ⌝ }
 {
     let method = config.method;
     if config.tile_width == 0 {
@@ -107,7 +107,7 @@ pub(crate) fn check_settings(config: TileThresholdConfig) -> Check
 // Whether the lent buffers hold `count` tiles.
 fn check_room(count: usize, room: usize, threshold_room: usize, skip_room: usize) -> Check
     requires { ⌜ count ≤ 16777216 ⌝ }
-    ensures { λ r. ⌜ r ≡ gridRoomCheck count room «threshold_room» «skip_room» ⌝ }
+    ensures { λ r. ⌜ r ≡ first (gridRoom count room «threshold_room» «skip_room») ⌝ }
 {
     if room < 5 * count {
         return Check::Refused(ImgProcError::WorkspaceTooSmall);
@@ -130,7 +130,7 @@ fn check_build(
     skip_room: usize,
 ) -> Check
     requires { ⌜ (0 < geometry .width) × (geometry .width ≤ 4096) × (0 < geometry .height) × (geometry .height ≤ 4096) ⌝ }
-    ensures { λ r. ⌜ r ≡ (gridSettingsCheck config then gridRoomCheck (tileCount config (geometry .width) (geometry .height)) room «threshold_room» «skip_room») ⌝ }
+    ensures { λ r. ⌜ r ≡ first (gridSettings config then gridRoom (tileCount config (geometry .width) (geometry .height)) room «threshold_room» «skip_room») ⌝ }
 {
     let settings = check_settings(config);
     let Check::Accepted = settings else {
@@ -170,7 +170,20 @@ impl TileThresholdGrid {
         thresholds: &mut [u8],
         skips: &mut [u8],
     ) -> Built
-        ensures { λ r. ⌜ Builds (now (src .entry)) geometry config (now (workspace .entry)) (now (thresholds .entry)) (now (skips .entry)) r (now (workspace .exit)) (now (thresholds .exit)) (now (skips .exit)) ⌝ }
+        ensures { λ r.
+            ⌜
+            Builds
+            (record {
+              src = now (src .entry);
+              source = geometry;
+              settings = config;
+              workspace = now (workspace .entry);
+              thresholds = now (thresholds .entry);
+              skips = now (skips .entry);
+            })
+            (builtAnswer r)
+            (record { workspace = now (workspace .exit); thresholds = now (thresholds .exit); skips = now (skips .exit) })
+            ⌝ }
     {
         let layout = image::validate_layout(src.len(), geometry);
         let Layout::Valid(g) = layout else {
@@ -189,7 +202,7 @@ impl TileThresholdGrid {
 
     // The stored threshold of the tile of pixel (x, y).
     pub fn threshold_at(self, thresholds: &[u8], x: usize, y: usize) -> TileThreshold
-        ensures { λ r. ⌜ r ≡ thresholdAt (pixelPlace self (length (now (thresholds .entry))) x y) (now (thresholds .entry)) ⌝ }
+        ensures { λ r. ⌜ tileThresholdAnswer r ≡ thresholdAsked self (now (thresholds .entry)) x y ⌝ }
     {
         let place = query::pixel_place(self, thresholds.len(), x, y);
         let TilePlace::At(i) = place else {
@@ -200,7 +213,7 @@ impl TileThresholdGrid {
 
     // Whether the tile of pixel (x, y) is skipped.
     pub fn is_skip(self, skips: &[u8], x: usize, y: usize) -> TileSkip
-        ensures { λ r. ⌜ r ≡ skipAt (pixelPlace self (length (now (skips .entry))) x y) (now (skips .entry)) ⌝ }
+        ensures { λ r. ⌜ tileSkipAnswer r ≡ skipAsked self (now (skips .entry)) x y ⌝ }
     {
         let place = query::pixel_place(self, skips.len(), x, y);
         let TilePlace::At(i) = place else {
@@ -211,7 +224,7 @@ impl TileThresholdGrid {
 
     // Whether every tile of the tile row of pixel row y is skipped.
     pub fn row_all_skip(self, skips: &[u8], y: usize) -> TileSkip
-        ensures { λ r. ⌜ r ≡ rowSkip (rowPlace self (length (now (skips .entry))) y) (self .«tiles_x») (now (skips .entry)) ⌝ }
+        ensures { λ r. ⌜ tileSkipAnswer r ≡ rowSkipAsked self (now (skips .entry)) y ⌝ }
     {
         let place = query::row_place(self, skips.len(), y);
         let TilePlace::At(i) = place else {

@@ -12,8 +12,10 @@ ghost use Prim.Native.Nat.{ℕ, _+_, _*_, _≤_, _<_};
 ghost use lib.ListN.{length, getD};
 ghost use Rattle.image.specs.Layout.{Kept};
 ghost use Rattle.image.specs.Plane.{part, packed, overwritten, tabulate};
-ghost use Rattle.imgproc.specs.Refusals.{divisionSettings};
-ghost use Rattle.imgproc.specs.Division.{divisionDefaults, quotient, dividedBy, FlattenReady, Flattened, DivideReady, Divided, Divides};
+ghost use Rattle.imgproc.specs.Refusals.{first, divisionSettings};
+ghost use Rattle.imgproc.specs.Division.{divisionDefaults, quotient, dividedBy, FlattenReady, Flattened, DivideReady, Divided, division};
+ghost use Rattle.imgproc.specs.Calls.{Serves};
+ghost use Rattle.imgproc.specs.MorphologyCalls.{comparedAnswer};
 
 pub struct BackgroundDivideConfig {
     pub structuring_element: usize,
@@ -129,7 +131,7 @@ fn divide_picture(
 
 // Whether the settings are in range: a bad element is 7 here, and not a bad kernel.
 pub(crate) fn check_settings(config: BackgroundDivideConfig) -> Check
-    ensures { λ r. ⌜ r ≡ divisionSettings config ⌝ }
+    ensures { λ r. ⌜ r ≡ first (divisionSettings config) ⌝ }
 {
     if config.structuring_element < 3 {
         return Check::Refused(ImgProcError::InvalidConfiguration);
@@ -154,7 +156,7 @@ pub fn background_divide_into(
 ) -> Compared
     ensures { λ r.
         ⌜
-        Divides
+        Serves division
         (record {
           src = now (src .entry);
           source = «src_geometry»;
@@ -163,7 +165,7 @@ pub fn background_divide_into(
           settings = config;
           workspace = now (workspace .entry);
         })
-        r
+        (comparedAnswer r)
         (record { dst = now (dst .exit); workspace = now (workspace .exit) })
         ⌝ }
 {

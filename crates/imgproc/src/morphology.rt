@@ -8,7 +8,8 @@ use crate::tally::Tally;
 use crate::tally::start;
 use image::Geometry;
 use image::Layout;
-ghost use Rattle.imgproc.specs.MorphologyCalls.{OperateReady, Operated, CountReady, Counts, RunReady, Runs, Applies};
+ghost use Rattle.imgproc.specs.MorphologyCalls.{OperateReady, Operated, CountReady, Counts, RunReady, Runs, comparedAnswer, morphology};
+ghost use Rattle.imgproc.specs.Calls.{Serves};
 
 enum Operation {
     Erode,
@@ -101,7 +102,7 @@ fn apply_into(
 ) -> Compared
     ensures { λ r.
         ⌜
-        Applies operation
+        Serves (morphology operation)
         (record {
           src = now (src .entry);
           source = «src_geometry»;
@@ -110,7 +111,7 @@ fn apply_into(
           settings = «kernel_size»;
           workspace = now (workspace .entry);
         })
-        r
+        (comparedAnswer r)
         (record { dst = now (dst .exit); workspace = now (workspace .exit) })
         ⌝ }
 {
@@ -151,7 +152,7 @@ pub fn grayscale_erode_into(
 ) -> Compared
     ensures { λ r.
         ⌜
-        Applies Operation.Erode
+        Serves (morphology Operation.Erode)
         (record {
           src = now (src .entry);
           source = «src_geometry»;
@@ -160,7 +161,7 @@ pub fn grayscale_erode_into(
           settings = «kernel_size»;
           workspace = now (workspace .entry);
         })
-        r
+        (comparedAnswer r)
         (record { dst = now (dst .exit); workspace = now (workspace .exit) })
         ⌝ }
 {
@@ -186,7 +187,7 @@ pub fn grayscale_dilate_into(
 ) -> Compared
     ensures { λ r.
         ⌜
-        Applies Operation.Dilate
+        Serves (morphology Operation.Dilate)
         (record {
           src = now (src .entry);
           source = «src_geometry»;
@@ -195,7 +196,7 @@ pub fn grayscale_dilate_into(
           settings = «kernel_size»;
           workspace = now (workspace .entry);
         })
-        r
+        (comparedAnswer r)
         (record { dst = now (dst .exit); workspace = now (workspace .exit) })
         ⌝ }
 {
@@ -221,7 +222,7 @@ pub fn grayscale_open_into(
 ) -> Compared
     ensures { λ r.
         ⌜
-        Applies Operation.Open
+        Serves (morphology Operation.Open)
         (record {
           src = now (src .entry);
           source = «src_geometry»;
@@ -230,7 +231,7 @@ pub fn grayscale_open_into(
           settings = «kernel_size»;
           workspace = now (workspace .entry);
         })
-        r
+        (comparedAnswer r)
         (record { dst = now (dst .exit); workspace = now (workspace .exit) })
         ⌝ }
 {
@@ -256,7 +257,7 @@ pub fn grayscale_close_into(
 ) -> Compared
     ensures { λ r.
         ⌜
-        Applies Operation.Close
+        Serves (morphology Operation.Close)
         (record {
           src = now (src .entry);
           source = «src_geometry»;
@@ -265,7 +266,7 @@ pub fn grayscale_close_into(
           settings = «kernel_size»;
           workspace = now (workspace .entry);
         })
-        r
+        (comparedAnswer r)
         (record { dst = now (dst .exit); workspace = now (workspace .exit) })
         ⌝ }
 {

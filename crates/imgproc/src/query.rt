@@ -9,7 +9,8 @@ ghost use Prim.Native.Nat.{_+_, _≤_};
 ghost use mathlib.Core.Bool.{_&&_};
 ghost use lib.Dec.{ltb};
 ghost use lib.ListN.{length};
-ghost use Rattle.imgproc.specs.GridCalls.{badSide, badGrid, queryCheck, pixelPlace, rowPlace, placeRefusal, allSkipped};
+ghost use Rattle.imgproc.specs.Refusals.{first};
+ghost use Rattle.imgproc.specs.GridCalls.{badSide, badGrid, queryConditions, pixelPlace, rowPlace, placeRefusal, allSkipped};
 
 // Where the byte of a tile stands.
 pub enum TilePlace {
@@ -50,7 +51,7 @@ fn bad_grid(grid: TileThresholdGrid) -> bool
 
 // Whether a question to a grid is taken: `inside` says whether its pixel or row lies in the picture.
 fn check_query(grid: TileThresholdGrid, len: usize, inside: bool) -> Check
-    ensures { λ r. ⌜ r ≡ queryCheck grid len inside ⌝ }
+    ensures { λ r. ⌜ r ≡ first (queryConditions grid len inside) ⌝ }
 {
     if bad_grid(grid) {
         return Check::Refused(ImgProcError::InvalidConfiguration);

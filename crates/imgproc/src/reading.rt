@@ -15,7 +15,8 @@ use image::Geometry;
 use image::Layout;
 ghost use mathlib.Core.Path.{_≡_};
 ghost use Rattle.imgproc.specs.Tiles.{Sized};
-ghost use Rattle.imgproc.specs.Reading.{Reads, readingSettings, readingRoom};
+ghost use Rattle.imgproc.specs.Reading.{Reads, readAnswer, readingSettings, readingRoom};
+ghost use Rattle.imgproc.specs.Refusals.{first};
 ghost use Rattle.imgproc.specs.ReadingSteps.{ReadReady, ReadDone, OpenReady, Opened, MarkReady, Marks};
 
 pub struct ReadingConfig {
@@ -103,7 +104,7 @@ fn read_picture(
 
 // Whether the settings are in range: the division's, the opening's kernel, the grid's, the threshold's.
 pub(crate) fn check_settings(config: ReadingConfig) -> Check
-    ensures { λ r. ⌜ r ≡ readingSettings config ⌝ }
+    ensures { λ r. ⌜ r ≡ first (readingSettings config) ⌝ }
 {
     let division = crate::illumination::check_settings(config.division);
     let Check::Accepted = division else {
@@ -130,7 +131,7 @@ pub(crate) fn check_room(
     words: usize,
 ) -> Check
     requires { ⌜ Sized (config .grid) (geometry .width) (geometry .height) ⌝ }
-    ensures { λ r. ⌜ r ≡ readingRoom geometry config bytes words ⌝ }
+    ensures { λ r. ⌜ r ≡ first (readingRoom geometry config bytes words) ⌝ }
 {
     let grid = config.grid;
     let width = geometry.width;
@@ -167,7 +168,7 @@ pub fn reading(
           bytes = now (bytes .entry);
           words = now (words .entry);
         })
-        r
+        (readAnswer r)
         (record { dst = now (dst .exit); bytes = now (bytes .exit); words = now (words .exit) })
         ⌝ }
 {

@@ -10,10 +10,12 @@ ghost use Prim.Native.Nat.{ℕ, _+_, _-_, _≤_, _<_, min};
 ghost use lib.ListN.{length, getD};
 ghost use Rattle.image.specs.Layout.{Kept, sideLimit};
 ghost use Rattle.image.specs.Plane.{picture};
-ghost use Rattle.imgproc.specs.Refusals.{sauvolaSettings, settingsAndRoom, tableEntries};
+ghost use Rattle.imgproc.specs.Refusals.{first, sauvolaSettings, settingsAndRoom, tableEntries};
 ghost use Rattle.imgproc.specs.WholeRoot.{wholeRoot};
 ghost use Rattle.imgproc.specs.Tables.{InRange, Ready, Sane};
-ghost use Rattle.imgproc.specs.Sauvola.{sauvolaDefaults, binarizedNumber, spread, threshold, thresholdAt, verdict, binarisedInto, Binarizes};
+ghost use Rattle.imgproc.specs.Sauvola.{sauvolaDefaults, binarizedAnswer, spread, threshold, thresholdAt, verdict, binarisedInto, sauvola};
+ghost use Rattle.imgproc.specs.Calls.{Serves};
+ghost use Rattle.image.specs.Answers.{answerNumber};
 
 // Settings of a binarisation. k is given in thousandths.
 pub struct SauvolaConfig {
@@ -47,7 +49,7 @@ impl SauvolaConfig {
 
 // The number of an answer: 0 where the call is done, else its refusal's.
 pub fn binarized_number(answer: Binarized) -> u32
-    ensures { λ r. ⌜ r ≡ binarizedNumber answer ⌝ }
+    ensures { λ r. ⌜ r ≡ answerNumber (binarizedAnswer answer) ⌝ }
 {
     match answer {
         Binarized::Done => 0,
@@ -207,7 +209,7 @@ pub(crate) fn binarize_rows(
 
 // Whether the settings are in range.
 pub(crate) fn check_settings(config: SauvolaConfig) -> Check
-    ensures { λ r. ⌜ r ≡ sauvolaSettings config ⌝ }
+    ensures { λ r. ⌜ r ≡ first (sauvolaSettings config) ⌝ }
 {
     if config.radius == 0 {
         return Check::Refused(ImgProcError::InvalidConfiguration);
@@ -224,7 +226,7 @@ pub(crate) fn check_settings(config: SauvolaConfig) -> Check
 // The settings, and then the room for both tables of a picture.
 fn check_room(config: SauvolaConfig, geometry: Geometry, room: usize) -> Check
     requires { ⌜ (geometry .width ≤ sideLimit) × (geometry .height ≤ sideLimit) ⌝ }
-    ensures { λ r. ⌜ r ≡ settingsAndRoom config geometry room ⌝ }
+    ensures { λ r. ⌜ r ≡ first (settingsAndRoom config geometry room) ⌝ }
 {
     let check = check_settings(config);
     let Check::Accepted = check else {
@@ -264,7 +266,7 @@ pub fn sauvola_into(
 ) -> Binarized
     ensures { λ r.
         ⌜
-        Binarizes
+        Serves sauvola
         (record {
           src = now (src .entry);
           source = «src_geometry»;
@@ -273,7 +275,7 @@ pub fn sauvola_into(
           settings = config;
           workspace = now (workspace .entry);
         })
-        r
+        (binarizedAnswer r)
         (record { dst = now (dst .exit); workspace = now (workspace .exit) })
         ⌝ }
 {

@@ -18,8 +18,9 @@ use Rattle.imgproc.specs.declared.query.TilePlace.{TilePlace}
 use Rattle.imgproc.specs.declared.query.TilePlace.the-variants.{At, Refused as TilePlace·Refused}
 use Rattle.imgproc.specs.Reach.{ceiling}
 use Rattle.imgproc.specs.GridLaws.{ceiling-small}
-use Rattle.imgproc.specs.GridCalls.{badSide, badGrid, queryCheck, placeBy, tileOf, pixelPlace, rowPlace, placeRefusal}
-use Rattle.imgproc.specs.Refusals.{_then_, refusedIf}
+use Rattle.imgproc.specs.GridCalls.{badSide, badGrid, queryConditions, pixelConditions, rowConditions, placeBy, tileOf, tileRowOf, pixelPlace, rowPlace, placeRefusal}
+use Rattle.imgproc.specs.Refusals.{errorNumber, first, _then_, refusedIf, answerBy}
+use Rattle.image.specs.Answers.{accepted, refused}
 use Rattle.imgproc.specs.RefusalLaws.{both-accepted, not-refused}
 
 -- a grid that is one
@@ -81,7 +82,7 @@ pub record Asked (q : TileThresholdGrid) (len : ℕ) (inside : Bool) : Type 0 wh
   pub room : q .«tiles_x» * q .«tiles_y» ≤ len
   pub there : inside ≡ true
 
-pub asked : (q : TileThresholdGrid) (len : ℕ) (inside : Bool) → queryCheck q len inside ≡ Accepted → Asked q len inside
+pub asked : (q : TileThresholdGrid) (len : ℕ) (inside : Bool) → first (queryConditions q len inside) ≡ Accepted → Asked q len inside
 asked q len inside e =
     let a = both-accepted (refusedIf (badGrid q) InvalidConfiguration) (refusedIf (ltb len (q .«tiles_x» * q .«tiles_y»)) GridBufferTooSmall then refusedIf (not inside) (Image OutsidePicture)) e in
     let b = both-accepted (refusedIf (ltb len (q .«tiles_x» * q .«tiles_y»)) GridBufferTooSmall) (refusedIf (not inside) (Image OutsidePicture)) (a .1) in
@@ -112,13 +113,13 @@ module _ (c : Check) (n i : ℕ) where
 
 pub pixel-within : (q : TileThresholdGrid) (len x y i : ℕ) → pixelPlace q len x y ≡ At i → i < len
 pixel-within q len x y i e =
-    let p = placed (queryCheck q len (ltb x (q .width) && ltb y (q .height))) (tileOf q x y) i e in
+    let p = placed (first (pixelConditions q len x y)) (tileOf q x y) i e in
     let a = asked q len (ltb x (q .width) && ltb y (q .height)) (p .0) in
     let t = inside-pixel {q = q} {len = len} {x = x} {y = y} a in omega (arith, p .1, a .room, tile-row (a .grid) y (t .1), tile-column (a .grid) x (t .0))
 
 pub row-within : (q : TileThresholdGrid) (len y i : ℕ) → rowPlace q len y ≡ At i → i + q .«tiles_x» ≤ len
 row-within q len y i e =
-    let p = placed (queryCheck q len (ltb y (q .height))) (y / q .«tile_height» * q .«tiles_x») i e in
+    let p = placed (first (rowConditions q len y)) (tileRowOf q y) i e in
     let a = asked q len (ltb y (q .height)) (p .0) in omega (arith, p .1, a .room, tile-row (a .grid) y (ltb-true _ _ (a .there)))
 
 -- the ways out of a question for a place
@@ -129,9 +130,16 @@ module _ {c k : Check} (n : ℕ) (p : k ≡ c) where
   pub place-there : k ≡ Accepted → At n ≡ placeBy c n
   place-there q = ap (λ (x : Check). placeBy x n) (sym q ∙ p)
 
--- an answer by the place: a refusal is then-accepted on
-pub answer-refused : {A : Type 0} (of : TilePlace → A) (refusal : ImgProcError → A) → ((e : ImgProcError) → of (TilePlace·Refused e) ≡ refusal e) → {p q : TilePlace} {e r : ImgProcError} → p ≡ q → p ≡ TilePlace·Refused e → r ≡ placeRefusal p → refusal r ≡ of q
-answer-refused of refusal each {p} {q} {e} {r} is told found = ap refusal (found ∙ ap placeRefusal told) ∙ sym (each e) ∙ ap of (sym told ∙ is)
+-- an answer by the place: a refusal is passed on
+module _ {A : Type 0} (c : Check) (n : ℕ) {p : TilePlace} (is : p ≡ placeBy c n) where
+  pub answer-refused : (values : A) {e r : ImgProcError} → p ≡ TilePlace·Refused e → r ≡ placeRefusal p → refused (errorNumber r) ≡ answerBy c values
+  answer-refused values told found = ap (λ (x : ImgProcError). refused (errorNumber x)) (found ∙ ap placeRefusal told) ∙ go c (sym is ∙ told)
+    where
+      go : (k : Check) {e : ImgProcError} → placeBy k n ≡ TilePlace·Refused e → refused (errorNumber e) ≡ answerBy k values
+      go Accepted q = let z : _≡_ {A = ℕ} 0 1 = cc in absurd (omega arith)
+      go (Refused x) {e} q = let z : x ≡ e = cc in ap (λ (y : ImgProcError). refused (errorNumber y)) (sym z)
 
-pub answer-there : {A : Type 0} (of : TilePlace → A) {p q : TilePlace} {i : ℕ} → p ≡ q → p ≡ At i → of (At i) ≡ of q
-answer-there of is told = ap of (sym told ∙ is)
+  pub answer-there : (value : ℕ → A) {i : ℕ} → p ≡ At i → accepted (value i) ≡ answerBy c (value n)
+  answer-there value told =
+      let q = placed c n _ (sym is ∙ told) in
+      ap (λ (m : ℕ). accepted (value m)) (sym (q .1)) ∙ ap (λ (k : Check). answerBy k (value n)) (sym (q .0))

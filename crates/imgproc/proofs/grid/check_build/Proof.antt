@@ -2,7 +2,8 @@
 use Prim.Native.Nat.{ℕ}
 use mathlib.Core.Path.{sym, ap, _∙_}
 use native.Mathlib.Omega.{arith}
-use Rattle.imgproc.specs.GridCalls.{tileCount, gridRoomCheck}
+use Rattle.imgproc.specs.GridCalls.{gridSettings, tileCount, gridRoom}
+use Rattle.imgproc.specs.Refusals.{first}
 use Rattle.imgproc.specs.Tiles.{Sized}
 use Rattle.imgproc.specs.RefusalLaws.{then-accepted, then-refused}
 use Rattle.imgproc.proofs.grid.Ways.{sides-taken}
@@ -25,7 +26,7 @@ returns c =
     let s = c .before .before in
     let a = s .before .args in
     c .enum-told2 .given .1
-    ∙ sym (then-refused (gridRoomCheck (tileCount (a .config) (a .geometry .width) (a .geometry .height)) (a .room) (a .threshold-room) (a .skip-room)) (sym (s .check-settings .ensures) ∙ c .enum-told2 .given .1))
+    ∙ sym (then-refused (gridSettings (a .config)) (gridRoom (tileCount (a .config) (a .geometry .width) (a .geometry .height)) (a .room) (a .threshold-room) (a .skip-room)) (sym (s .check-settings .ensures) ∙ c .enum-told2 .given .1))
 
 -- settings that were taken
 sized : (c : tie.After-enum-told) → Sized (c .before .before .before .args .config) (c .before .before .before .args .geometry .width) (c .before .before .before .args .geometry .height)
@@ -52,8 +53,8 @@ returns-2 c =
     let s = k .before .before in
     let a = s .before .args in
     c .check-room .ensures
-    ∙ ap (λ (n : ℕ). gridRoomCheck n (a .room) (a .threshold-room) (a .skip-room)) (total (sized k) (c .before .before .tiles .ensures) (c .before .tiles2 .ensures))
-    ∙ sym (then-accepted (gridRoomCheck (tileCount (a .config) (a .geometry .width) (a .geometry .height)) (a .room) (a .threshold-room) (a .skip-room)) (sym (s .check-settings .ensures) ∙ k .enum-told .given .1))
+    ∙ ap (λ (n : ℕ). first (gridRoom n (a .room) (a .threshold-room) (a .skip-room))) (total (sized k) (c .before .before .tiles .ensures) (c .before .tiles2 .ensures))
+    ∙ sym (then-accepted (gridSettings (a .config)) (gridRoom (tileCount (a .config) (a .geometry .width) (a .geometry .height)) (a .room) (a .threshold-room) (a .skip-room)) (sym (s .check-settings .ensures) ∙ k .enum-told .given .1))
 
 pub check-build-spec : {M : Type 1} → statement M
 check-build-spec =

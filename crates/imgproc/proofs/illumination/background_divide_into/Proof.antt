@@ -1,15 +1,17 @@
 -- `background_divide_into` meets its contract: each way out is one law of the check. Assumes nothing.
 use borrow.Author.Needs.{needs}
-use Prim.Native.Nat.{ℕ}
+use Prim.Native.Nat.{ℕ, _*_}
 use native.Mathlib.Omega.{arith}
 use mathlib.Core.Path.{sym, ap, _∙_}
+use lib.Dec.{ltb}
 use lib.ListN.{length}
 use denote.Ref.{now}
 use Rattle.image.specs.LayoutLaws.{area-small}
-use Rattle.imgproc.specs.declared.morphology.Compared.the-variants.{Comparisons}
+use Rattle.imgproc.specs.Refusals.{refusedIf, divisionSettings}
 use Rattle.imgproc.specs.RefusalLaws.{then-accepted, division-says}
+use Rattle.imgproc.specs.declared.ImgProcError.the-variants.{Image, DimensionMismatch, WorkspaceTooSmall}
 use Rattle.imgproc.proofs.WaysOut.{Pair, pair-of, source-kept, target-kept, ways}
-use Rattle.imgproc.proofs.Serving.{refused, served}
+use Rattle.imgproc.proofs.Serving.{refused-call, served}
 use Rattle.imgproc.proofs.MorphologyWays.{room-short, room-enough}
 use Rattle.imgproc.proofs.illumination.background_divide_into.Statement.{statement}
 use Rattle.imgproc.proofs.illumination.background_divide_into.Tie as tie
@@ -40,7 +42,7 @@ refusal-requires : tie.Need-refusal-requires
 refusal-requires c κs = search needs
 
 returns : tie.Need-returns
-returns c = refused (search ways)
+returns c = refused-call (Image (c .refusal .result)) (search ways)
 
 validate-layout-requires-2 : tie.Need-validate-layout-requires-2
 validate-layout-requires-2 c κs = search needs
@@ -55,13 +57,13 @@ refusal-requires-2 : tie.Need-refusal-requires-2
 refusal-requires-2 c κs = search needs
 
 returns-2 : tie.Need-returns-2
-returns-2 c = refused (search ways)
+returns-2 c = refused-call (Image (c .refusal2 .result)) (search ways)
 
 returns-3 : tie.Need-returns-3
-returns-3 c = refused (search ways)
+returns-3 c = refused-call DimensionMismatch (search ways)
 
 returns-4 : tie.Need-returns-4
-returns-4 c = refused (search ways)
+returns-4 c = refused-call DimensionMismatch (search ways)
 
 check-settings-requires : tie.Need-check-settings-requires
 check-settings-requires c κs = search needs
@@ -70,7 +72,7 @@ enum-known-settings : tie.Need-enum-known-settings
 enum-known-settings c = search needs
 
 returns-5 : tie.Need-returns-5
-returns-5 c = refused (search ways)
+returns-5 c = refused-call (c .before .settings .given .0 .0) (search ways)
 
 enum-told-3 : tie.Need-enum-told-3
 enum-told-3 c = search needs
@@ -82,7 +84,7 @@ mul-if3-2 : tie.Need-mul-if3-2
 mul-if3-2 c = omega (arith, area-small (source-kept (pair (c .before .before .before .before))))
 
 returns-6 : tie.Need-returns-6
-returns-6 c = refused (search (ways, room-short))
+returns-6 c = refused-call WorkspaceTooSmall (search (ways, room-short))
 
 divide-picture-requires : tie.Need-divide-picture-requires
 divide-picture-requires c κs =
@@ -114,7 +116,10 @@ returns-7 c =
     let k = e .before .before in
     let s = k .before .before in
     let d = ran .divide-picture .ensures in
-    served (pair (s .before)) (then-accepted _ (sym (s .check-settings .ensures) ∙ k .enum-told3 .given .1) ∙ room-enough _ _ (e .if3 .left)) (ap (λ (n : ℕ). Comparisons (record { comparisons = n })) (d .counted)) (d .leaves) (d .long)
+    let a = start (s .before) .args in
+    let g = first (s .before) .before .layout .given .0 .0 in
+    let room = refusedIf (ltb (length (now (a .workspace))) (7 * (g .width * g .height))) WorkspaceTooSmall in
+    served (pair (s .before)) (then-accepted (divisionSettings (a .config)) room (sym (s .check-settings .ensures) ∙ k .enum-told3 .given .1) ∙ room-enough _ _ (e .if3 .left)) (d .counted) (d .leaves) (d .long)
 
 pub background-divide-into-spec : {M : Type 1} → statement M
 background-divide-into-spec =

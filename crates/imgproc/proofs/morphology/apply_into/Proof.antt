@@ -6,9 +6,9 @@ use mathlib.Core.Path.{ap, _∙_}
 use lib.ListN.{length}
 use denote.Ref.{now}
 use Rattle.image.specs.LayoutLaws.{area-small}
-use Rattle.imgproc.specs.declared.morphology.Compared.the-variants.{Comparisons}
+use Rattle.imgproc.specs.declared.ImgProcError.the-variants.{Image, DimensionMismatch, InvalidKernel, WorkspaceTooSmall}
 use Rattle.imgproc.proofs.WaysOut.{Pair, pair-of, source-kept, target-kept, ways}
-use Rattle.imgproc.proofs.Serving.{refused, served}
+use Rattle.imgproc.proofs.Serving.{refused-call, served}
 use Rattle.imgproc.proofs.MorphologyWays.{kernel-good, room-enough, kernel-ways}
 use Rattle.imgproc.proofs.morphology.apply_into.Statement.{statement}
 use Rattle.imgproc.proofs.morphology.apply_into.Tie as tie
@@ -39,7 +39,7 @@ refusal-requires : tie.Need-refusal-requires
 refusal-requires c κs = search needs
 
 returns : tie.Need-returns
-returns c = refused (search ways)
+returns c = refused-call (Image (c .refusal .result)) (search ways)
 
 validate-layout-requires-2 : tie.Need-validate-layout-requires-2
 validate-layout-requires-2 c κs = search needs
@@ -54,19 +54,19 @@ refusal-requires-2 : tie.Need-refusal-requires-2
 refusal-requires-2 c κs = search needs
 
 returns-2 : tie.Need-returns-2
-returns-2 c = refused (search ways)
+returns-2 c = refused-call (Image (c .refusal2 .result)) (search ways)
 
 returns-3 : tie.Need-returns-3
-returns-3 c = refused (search ways)
+returns-3 c = refused-call DimensionMismatch (search ways)
 
 returns-4 : tie.Need-returns-4
-returns-4 c = refused (search ways)
+returns-4 c = refused-call DimensionMismatch (search ways)
 
 returns-5 : tie.Need-returns-5
-returns-5 c = refused (search (ways, kernel-ways))
+returns-5 c = refused-call InvalidKernel (search (ways, kernel-ways))
 
 returns-6 : tie.Need-returns-6
-returns-6 c = refused (search (ways, kernel-ways))
+returns-6 c = refused-call InvalidKernel (search (ways, kernel-ways))
 
 mul-if5 : tie.Need-mul-if5
 mul-if5 c = omega (arith, area-small (source-kept (pair (c .before .before .before))))
@@ -75,7 +75,7 @@ mul-if5-2 : tie.Need-mul-if5-2
 mul-if5-2 c = omega (arith, area-small (source-kept (pair (c .before .before .before))))
 
 returns-7 : tie.Need-returns-7
-returns-7 c = refused (search (ways, kernel-ways))
+returns-7 c = refused-call WorkspaceTooSmall (search (ways, kernel-ways))
 
 run-requires : tie.Need-run-requires
 run-requires c κs =
@@ -103,7 +103,7 @@ returns-8 c =
     let e = ran .before .before .before in
     let odd = e .before .before in
     let r = ran .run .ensures in
-    served (pair (odd .before .before)) (kernel-good _ _ (odd .before .if3 .left) (odd .if4 .left) ∙ room-enough _ _ (e .if5 .left)) (ap (λ (n : ℕ). Comparisons (record { comparisons = n })) (r .counted)) (r .leaves) (r .long)
+    served (pair (odd .before .before)) (kernel-good _ _ (odd .before .if3 .left) (odd .if4 .left) ∙ room-enough _ _ (e .if5 .left)) (r .counted) (r .leaves) (r .long)
 
 pub apply-into-spec : {M : Type 1} → statement M
 apply-into-spec =

@@ -1,9 +1,10 @@
 -- `pixel_place` meets its contract. Assumes nothing.
 use mathlib.Core.Path.{_≡_, sym, ap, _∙_}
-use mathlib.Core.Bool.{_&&_}
+use mathlib.Core.Bool.{Bool, _&&_}
 use native.Mathlib.Omega.{arith}
 use lib.Dec.{ltb}
-use Rattle.imgproc.specs.GridCalls.{queryCheck}
+use Rattle.imgproc.specs.GridCalls.{queryConditions}
+use Rattle.imgproc.specs.Refusals.{first}
 use Rattle.imgproc.proofs.query.Grids.{Asked, asked, inside-pixel, few-tiles, tile-row, tile-column, place-refused, place-there}
 use borrow.Author.Needs.{needs}
 use Rattle.imgproc.proofs.query.pixel_place.Statement.{statement}
@@ -13,8 +14,8 @@ holds-pixel-requires : tie.Need-holds-pixel-requires
 holds-pixel-requires c κs = search needs
 
 -- the check as the definition has it
-checked : (c : tie.After-check-query) → c .check-query .result ≡ queryCheck (c .before .before .args .grid) (c .before .before .args .len) (ltb (c .before .before .args .x) (c .before .before .args .grid .width) && ltb (c .before .before .args .y) (c .before .before .args .grid .height))
-checked c = c .check-query .ensures ∙ ap (queryCheck (c .before .before .args .grid) (c .before .before .args .len)) (c .before .holds-pixel .ensures)
+checked : (c : tie.After-check-query) → c .check-query .result ≡ first (queryConditions (c .before .before .args .grid) (c .before .before .args .len) (ltb (c .before .before .args .x) (c .before .before .args .grid .width) && ltb (c .before .before .args .y) (c .before .before .args .grid .height)))
+checked c = c .check-query .ensures ∙ ap (λ (b : Bool). first (queryConditions (c .before .before .args .grid) (c .before .before .args .len) b)) (c .before .holds-pixel .ensures)
 
 -- the question was taken
 taken : (c : tie.After-enum-told) → Asked (c .before .before .before .before .args .grid) (c .before .before .before .before .args .len) (ltb (c .before .before .before .before .args .x) (c .before .before .before .before .args .grid .width) && ltb (c .before .before .before .before .args .y) (c .before .before .before .before .args .grid .height))

@@ -1,21 +1,21 @@
 -- The settings one after another: each way out is one law. Assumes nothing.
 use borrow.Author.Needs.{needs}
 use mathlib.Core.Path.{sym, _∙_}
-use Rattle.imgproc.specs.declared.Check.{Check}
 use Rattle.imgproc.specs.declared.ImgProcError.the-variants.{InvalidKernel}
 use Rattle.imgproc.specs.declared.reading.ReadingConfig.{ReadingConfig}
-use Rattle.imgproc.specs.Refusals.{_then_, refusedIf, badKernel, sauvolaSettings}
-use Rattle.imgproc.specs.GridCalls.{gridSettingsCheck}
+use Rattle.imgproc.specs.Refusals.{Conditions, _then_, refusedIf, badKernel, divisionSettings, sauvolaSettings}
+use Rattle.imgproc.specs.Reading.{readingSettings}
+use Rattle.imgproc.specs.GridCalls.{gridSettings}
 use Rattle.imgproc.specs.RefusalLaws.{then-refused, then-accepted}
 use Rattle.imgproc.proofs.MorphologyWays.{kernel-small, kernel-even, kernel-good}
 use Rattle.imgproc.proofs.reading.check_settings.Statement.{statement}
 use Rattle.imgproc.proofs.reading.check_settings.Tie as tie
 
 -- what is checked after the division's settings, and after the kernel
-abbrev last : ReadingConfig → Check
-last s = gridSettingsCheck (s .grid) then sauvolaSettings (s .sauvola)
+abbrev last : ReadingConfig → Conditions
+last s = gridSettings (s .grid) then sauvolaSettings (s .sauvola)
 
-abbrev rest : ReadingConfig → Check
+abbrev rest : ReadingConfig → Conditions
 rest s = refusedIf (badKernel (s .«opening_kernel»)) InvalidKernel then last s
 
 check-settings-requires : tie.Need-check-settings-requires
@@ -28,24 +28,27 @@ enum-told-2 : tie.Need-enum-told-2
 enum-told-2 c = search needs
 
 returns : tie.Need-returns
+unfolding readingSettings
 returns c =
     let d = c .before .before in
-    let a = d .before .args in c .enum-told2 .given .1 ∙ sym (then-refused (rest (a .config)) (sym (d .check-settings .ensures) ∙ c .enum-told2 .given .1))
+    let a = d .before .args in c .enum-told2 .given .1 ∙ sym (then-refused (divisionSettings (a .config .division)) (rest (a .config)) (sym (d .check-settings .ensures) ∙ c .enum-told2 .given .1))
 
 returns-2 : tie.Need-returns-2
+unfolding readingSettings
 returns-2 c =
     let t = c .before .before in
     let d = t .before .before in
     let a = d .before .args in
-    sym (then-accepted (rest (a .config)) (sym (d .check-settings .ensures) ∙ t .enum-told .given .1) ∙ kernel-small (a .config .«opening_kernel») (last (a .config)) (c .if1 .taken))
+    sym (then-accepted (divisionSettings (a .config .division)) (rest (a .config)) (sym (d .check-settings .ensures) ∙ t .enum-told .given .1) ∙ kernel-small (a .config .«opening_kernel») (last (a .config)) (c .if1 .taken))
 
 returns-3 : tie.Need-returns-3
+unfolding readingSettings
 returns-3 c =
     let e = c .before .before in
     let t = e .before .before in
     let d = t .before .before in
     let a = d .before .args in
-    sym (then-accepted (rest (a .config)) (sym (d .check-settings .ensures) ∙ t .enum-told .given .1) ∙ kernel-even (a .config .«opening_kernel») (last (a .config)) (e .if1 .left) (c .if2 .taken))
+    sym (then-accepted (divisionSettings (a .config .division)) (rest (a .config)) (sym (d .check-settings .ensures) ∙ t .enum-told .given .1) ∙ kernel-even (a .config .«opening_kernel») (last (a .config)) (e .if1 .left) (c .if2 .taken))
 
 check-settings-requires-2 : tie.Need-check-settings-requires-2
 check-settings-requires-2 c κs = search needs
@@ -57,6 +60,7 @@ enum-told-4 : tie.Need-enum-told-4
 enum-told-4 c = search needs
 
 returns-4 : tie.Need-returns-4
+unfolding readingSettings
 returns-4 c =
     let g = c .before .before in
     let f = g .before in
@@ -65,14 +69,15 @@ returns-4 c =
     let d = t .before .before in
     let a = d .before .args in
     c .enum-told4 .given .1
-    ∙ sym (then-accepted (rest (a .config)) (sym (d .check-settings .ensures) ∙ t .enum-told .given .1)
+    ∙ sym (then-accepted (divisionSettings (a .config .division)) (rest (a .config)) (sym (d .check-settings .ensures) ∙ t .enum-told .given .1)
     ∙ kernel-good (a .config .«opening_kernel») (last (a .config)) (e .if1 .left) (f .if2 .left)
-    ∙ then-refused (sauvolaSettings (a .config .sauvola)) (sym (g .check-settings2 .ensures) ∙ c .enum-told4 .given .1))
+    ∙ then-refused (gridSettings (a .config .grid)) (sauvolaSettings (a .config .sauvola)) (sym (g .check-settings2 .ensures) ∙ c .enum-told4 .given .1))
 
 check-settings-requires-3 : tie.Need-check-settings-requires-3
 check-settings-requires-3 c κs = search needs
 
 returns-5 : tie.Need-returns-5
+unfolding readingSettings
 returns-5 c =
     let q = c .before in
     let g = q .before .before in
@@ -82,9 +87,9 @@ returns-5 c =
     let d = t .before .before in
     let a = d .before .args in
     c .check-settings3 .ensures
-    ∙ sym (then-accepted (rest (a .config)) (sym (d .check-settings .ensures) ∙ t .enum-told .given .1)
+    ∙ sym (then-accepted (divisionSettings (a .config .division)) (rest (a .config)) (sym (d .check-settings .ensures) ∙ t .enum-told .given .1)
     ∙ kernel-good (a .config .«opening_kernel») (last (a .config)) (e .if1 .left) (f .if2 .left)
-    ∙ then-accepted (sauvolaSettings (a .config .sauvola)) (sym (g .check-settings2 .ensures) ∙ q .enum-told3 .given .1))
+    ∙ then-accepted (gridSettings (a .config .grid)) (sauvolaSettings (a .config .sauvola)) (sym (g .check-settings2 .ensures) ∙ q .enum-told3 .given .1))
 
 pub check-settings-spec : {M : Type 1} → statement M
 check-settings-spec =

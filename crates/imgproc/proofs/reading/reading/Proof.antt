@@ -3,9 +3,9 @@ use borrow.Author.Needs.{needs}
 use mathlib.Core.Path.{sym, _∙_}
 use lib.ListN.{length}
 use denote.Ref.{now}
-use Rattle.imgproc.specs.RefusalLaws.{then-accepted}
+use Rattle.imgproc.specs.declared.ImgProcError.the-variants.{Image, DimensionMismatch}
 use Rattle.imgproc.proofs.WaysOut.{Pair, pair-of, source-kept, target-kept, ways}
-use Rattle.imgproc.proofs.ReadingWays.{says, room-says, refused, done}
+use Rattle.imgproc.proofs.ReadingWays.{says, room-says, refused-call, done}
 use Rattle.imgproc.proofs.reading.reading.Statement.{statement}
 use Rattle.imgproc.proofs.reading.reading.Tie as tie
 
@@ -35,7 +35,7 @@ refusal-requires : tie.Need-refusal-requires
 refusal-requires c κs = search needs
 
 returns : tie.Need-returns
-returns c = refused (search ways)
+returns c = refused-call (Image (c .refusal .result)) (search ways)
 
 validate-layout-requires-2 : tie.Need-validate-layout-requires-2
 validate-layout-requires-2 c κs = search needs
@@ -50,13 +50,13 @@ refusal-requires-2 : tie.Need-refusal-requires-2
 refusal-requires-2 c κs = search needs
 
 returns-2 : tie.Need-returns-2
-returns-2 c = refused (search ways)
+returns-2 c = refused-call (Image (c .refusal2 .result)) (search ways)
 
 returns-3 : tie.Need-returns-3
-returns-3 c = refused (search ways)
+returns-3 c = refused-call DimensionMismatch (search ways)
 
 returns-4 : tie.Need-returns-4
-returns-4 c = refused (search ways)
+returns-4 c = refused-call DimensionMismatch (search ways)
 
 check-settings-requires : tie.Need-check-settings-requires
 check-settings-requires c κs = search needs
@@ -65,7 +65,7 @@ enum-known-settings : tie.Need-enum-known-settings
 enum-known-settings c = search needs
 
 returns-5 : tie.Need-returns-5
-returns-5 c = refused (search ways)
+returns-5 c = refused-call (c .before .settings .given .0 .0) (search ways)
 
 enum-told-3 : tie.Need-enum-told-3
 enum-told-3 c = search needs
@@ -81,7 +81,7 @@ enum-known-room : tie.Need-enum-known-room
 enum-known-room c = search needs
 
 returns-6 : tie.Need-returns-6
-returns-6 c = refused (search ways)
+returns-6 c = refused-call (c .before .room .given .0 .0) (search ways)
 
 enum-told-4 : tie.Need-enum-told-4
 enum-told-4 c = search needs
@@ -126,7 +126,7 @@ returns-7 c =
     let r = j .before .before in
     let k = r .before in
     let s = k .before .before in
-    done (pair (s .before)) (then-accepted _ (sym (s .check-settings .ensures) ∙ k .enum-told3 .given .1) ∙ sym (r .check-room .ensures) ∙ j .enum-told4 .given .1) (ran .read-picture .ensures)
+    done (pair (s .before)) (sym (s .check-settings .ensures) ∙ k .enum-told3 .given .1) (sym (r .check-room .ensures) ∙ j .enum-told4 .given .1) (ran .read-picture .ensures)
 
 pub reading-spec : {M : Type 1} → statement M
 reading-spec =

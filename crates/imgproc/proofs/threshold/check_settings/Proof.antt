@@ -1,17 +1,21 @@
 -- `check_settings` refuses as document 01 says: one test after another. Assumes nothing.
+use Rattle.imgproc.specs.Refusals.{first, sauvolaSettings}
 use borrow.Author.Tests.{eq-eqb, ne-eqb, lt-ltb, le-ltb}
 use Rattle.imgproc.proofs.threshold.check_settings.Statement.{statement}
 use Rattle.imgproc.proofs.threshold.check_settings.Tie as tie
 
 returns : tie.Need-returns
+unfolding first sauvolaSettings
 returns c = simp (eq-eqb (c .before .before .args .config .radius) 0 (c .if1 .taken))
 
 returns-2 : tie.Need-returns-2
+unfolding first sauvolaSettings
 returns-2 c =
     let a = c .before .before .before .before .args in
     simp (ne-eqb (a .config .radius) 0 (c .before .before .if1 .left), lt-ltb 1000 (a .config .«k_milli») (c .if2 .taken))
 
 returns-3 : tie.Need-returns-3
+unfolding first sauvolaSettings
 returns-3 c =
     let a = c .before .before .before .before .before .before .args in
     simp (
@@ -21,6 +25,7 @@ returns-3 c =
     )
 
 returns-4 : tie.Need-returns-4
+unfolding first sauvolaSettings
 returns-4 c =
     let a = c .before .before .before .before .before .before .args in
     simp (

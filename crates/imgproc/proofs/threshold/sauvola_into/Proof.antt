@@ -3,8 +3,9 @@ use borrow.Author.Needs.{needs}
 use mathlib.Core.Path.{refl, sym, _∙_}
 use lib.ListN.{length}
 use denote.Ref.{now}
+use Rattle.imgproc.specs.declared.ImgProcError.the-variants.{Image, DimensionMismatch}
 use Rattle.imgproc.proofs.WaysOut.{Pair, pair-of, source-kept, target-kept, ways}
-use Rattle.imgproc.proofs.Serving.{refused, served}
+use Rattle.imgproc.proofs.Serving.{refused-call, served}
 use Rattle.imgproc.proofs.Answers.{room-here}
 use Rattle.imgproc.proofs.threshold.sauvola_into.Statement.{statement}
 use Rattle.imgproc.proofs.threshold.sauvola_into.Tie as tie
@@ -35,7 +36,7 @@ refusal-requires : tie.Need-refusal-requires
 refusal-requires c κs = search needs
 
 returns : tie.Need-returns
-returns c = refused (search ways)
+returns c = refused-call (Image (c .refusal .result)) (search ways)
 
 validate-layout-requires-2 : tie.Need-validate-layout-requires-2
 validate-layout-requires-2 c κs = search needs
@@ -50,13 +51,13 @@ refusal-requires-2 : tie.Need-refusal-requires-2
 refusal-requires-2 c κs = search needs
 
 returns-2 : tie.Need-returns-2
-returns-2 c = refused (search ways)
+returns-2 c = refused-call (Image (c .refusal2 .result)) (search ways)
 
 returns-3 : tie.Need-returns-3
-returns-3 c = refused (search ways)
+returns-3 c = refused-call DimensionMismatch (search ways)
 
 returns-4 : tie.Need-returns-4
-returns-4 c = refused (search ways)
+returns-4 c = refused-call DimensionMismatch (search ways)
 
 check-room-requires : tie.Need-check-room-requires
 check-room-requires c κs = let k = source-kept (pair c) in (k .small-width, k .small-height)
@@ -65,7 +66,7 @@ enum-known-check : tie.Need-enum-known-check
 enum-known-check c = search needs
 
 returns-5 : tie.Need-returns-5
-returns-5 c = refused (search ways)
+returns-5 c = refused-call (c .before .check .given .0 .0) (search ways)
 
 enum-told-3 : tie.Need-enum-told-3
 enum-told-3 c = search needs

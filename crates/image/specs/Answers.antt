@@ -1,0 +1,27 @@
+-- An answer in document 01's numbers, and the list of conditions that decides it. Definitions only.
+use Prim.Native.Nat.{ℕ}
+use mathlib.Core.Bool.{Bool}
+
+-- an answer: accepted with its values, or refused with a number
+pub data Answer (A : Type 0) : Type 0 where
+  accepted : A → Answer A
+  refused : ℕ → Answer A
+
+-- the values of a call with nothing else to tell
+pub data Bare : Type 0 where
+  bare : Bare
+
+-- the number of an answer: 0 where it is accepted
+abbrev pub answerNumber : {A : Type 0} → Answer A → ℕ
+answerNumber (accepted v) = 0
+answerNumber (refused n) = n
+
+-- a lent place for values, at exit: those of an accepted call, or what it held
+abbrev pub valuesOut : {A : Type 0} → Answer A → A → A
+valuesOut (accepted v) held = v
+valuesOut (refused n) held = held
+
+-- a condition of a call's list: whether it fits, and the refusal that it carries
+pub record Condition (Refusal : Type 0) : Type 0 where
+  pub fits : Bool
+  pub refusal : Refusal
