@@ -48,6 +48,10 @@ valueHere s w h p x y = pixel (openedOf s w h p) w x y
 abbrev pub thresholdHere : ReadingConfig → ℕ → ℕ → List ℕ → ℕ → ℕ → ℕ
 thresholdHere s w h p x y = thresholdAt (s .sauvola) w h (openedOf s w h p) x y
 
+-- the value is at most the threshold
+abbrev pub atMost : ReadingConfig → ℕ → ℕ → List ℕ → ℕ → ℕ → Bool
+atMost s w h p x y = leb (valueHere s w h p x y) (thresholdHere s w h p x y)
+
 -- a choice of three, each by its tests
 chosen-dark : (a b : Bool) → cond a Skipped (cond b Dark Light) ≡ Dark → (a ≡ false) × (b ≡ true)
 chosen-dark true b p = let z : _≡_ {A = ℕ} 0 1 = cc in absurd (omega arith)
@@ -80,32 +84,27 @@ tests-skipped false true = refl
 tests-skipped false false = refl
 
 module _ (s : ReadingConfig) (w h : ℕ) (p : List ℕ) (x y : ℕ) where
-  below : Bool
-  below = leb (valueHere s w h p x y) (thresholdHere s w h p x y)
-
-  judged-by : judged s w h p x y ≡ cond (skipHere s w h p x y) Skipped (cond below Dark Light)
-  unfolding judged judgedOver atOrBelow below
+  judged-by : judged s w h p x y ≡ cond (skipHere s w h p x y) Skipped (cond (atMost s w h p x y) Dark Light)
+  unfolding judged judgedOver atOrBelow
   judged-by = refl
 
   -- a pixel is judged dark exactly when its tile is not skipped and its flattened, opened value is at most the directly summed threshold
   pub dark-exactly : (judged s w h p x y ≡ Dark) ↔ ((skipHere s w h p x y ≡ false) × (valueHere s w h p x y ≤ thresholdHere s w h p x y))
-  unfolding below
   dark-exactly = (
-    λ d. let c = chosen-dark (skipHere s w h p x y) below (sym judged-by ∙ d) in (c .0, leb-true _ _ (c .1)),
+    λ d. let c = chosen-dark (skipHere s w h p x y) (atMost s w h p x y) (sym judged-by ∙ d) in (c .0, leb-true _ _ (c .1)),
     λ c. judged-by ∙ rw (c .0, le-leb _ _ (c .1)),
   )
 
   -- light exactly when its tile is not skipped and that value is above that threshold
   pub light-exactly : (judged s w h p x y ≡ Light) ↔ ((skipHere s w h p x y ≡ false) × (thresholdHere s w h p x y < valueHere s w h p x y))
-  unfolding below
   light-exactly = (
-    λ d. let c = chosen-light (skipHere s w h p x y) below (sym judged-by ∙ d) in (c .0, leb-false _ _ (c .1)),
+    λ d. let c = chosen-light (skipHere s w h p x y) (atMost s w h p x y) (sym judged-by ∙ d) in (c .0, leb-false _ _ (c .1)),
     λ c. judged-by ∙ rw (c .0, lt-leb _ _ (c .1)),
   )
 
   -- skipped exactly when its tile is
   pub skipped-exactly : (judged s w h p x y ≡ Skipped) ↔ (skipHere s w h p x y ≡ true)
-  skipped-exactly = (λ d. chosen-skipped (skipHere s w h p x y) below (sym judged-by ∙ d), λ c. judged-by ∙ rw c)
+  skipped-exactly = (λ d. chosen-skipped (skipHere s w h p x y) (atMost s w h p x y) (sym judged-by ∙ d), λ c. judged-by ∙ rw c)
 
 -- ---- an accepted reading
 
@@ -155,26 +154,29 @@ module _ (a : AcceptedReading) where
 
   -- dark is the number of pixels whose tile is not skipped and whose value is at most the threshold
   pub dark-counted : a .numbers .dark
-      ≡ pixels wide high (λ x y. not (skipHere settingsOf wide high sourceOf x y) && leb (valueHere settingsOf wide high sourceOf x y) (thresholdHere settingsOf wide high sourceOf x y))
-  unfolding readingOf below
+      ≡ pixels wide high (λ x y. not (skipHere settingsOf wide high sourceOf x y) && atMost settingsOf wide high sourceOf x y)
+  unfolding readingOf
   dark-counted =
       ap (λ (n : ReadingNumbers). n .dark) numbers-are
-      ∙ pixels-same wide high _ _ (λ x y. ap isDark (judged-by settingsOf wide high sourceOf x y) ∙ tests-dark _ (below settingsOf wide high sourceOf x y))
+      ∙ pixels-same wide high (λ x y. isDark (judgedHere x y)) (λ x y. not (skipHere settingsOf wide high sourceOf x y) && atMost settingsOf wide high sourceOf x y)
+      (λ x y. ap isDark (judged-by settingsOf wide high sourceOf x y) ∙ tests-dark (skipHere settingsOf wide high sourceOf x y) (atMost settingsOf wide high sourceOf x y))
 
   -- light the number of those whose tile is not skipped and whose value is above it
   pub light-counted : a .numbers .light
-      ≡ pixels wide high (λ x y. not (skipHere settingsOf wide high sourceOf x y) && not (leb (valueHere settingsOf wide high sourceOf x y) (thresholdHere settingsOf wide high sourceOf x y)))
-  unfolding readingOf below
+      ≡ pixels wide high (λ x y. not (skipHere settingsOf wide high sourceOf x y) && not (atMost settingsOf wide high sourceOf x y))
+  unfolding readingOf
   light-counted =
       ap (λ (n : ReadingNumbers). n .light) numbers-are
-      ∙ pixels-same wide high _ _ (λ x y. ap isLight (judged-by settingsOf wide high sourceOf x y) ∙ tests-light _ (below settingsOf wide high sourceOf x y))
+      ∙ pixels-same wide high (λ x y. isLight (judgedHere x y)) (λ x y. not (skipHere settingsOf wide high sourceOf x y) && not (atMost settingsOf wide high sourceOf x y))
+      (λ x y. ap isLight (judged-by settingsOf wide high sourceOf x y) ∙ tests-light (skipHere settingsOf wide high sourceOf x y) (atMost settingsOf wide high sourceOf x y))
 
   -- skipped the number of those whose tile is skipped
   pub skipped-counted : a .numbers .skipped ≡ pixels wide high (skipHere settingsOf wide high sourceOf)
   unfolding readingOf
   skipped-counted =
       ap (λ (n : ReadingNumbers). n .skipped) numbers-are
-      ∙ pixels-same wide high _ _ (λ x y. ap isSkipped (judged-by settingsOf wide high sourceOf x y) ∙ tests-skipped _ (below settingsOf wide high sourceOf x y))
+      ∙ pixels-same wide high (λ x y. isSkipped (judgedHere x y)) (skipHere settingsOf wide high sourceOf)
+      (λ x y. ap isSkipped (judged-by settingsOf wide high sourceOf x y) ∙ tests-skipped (skipHere settingsOf wide high sourceOf x y) (atMost settingsOf wide high sourceOf x y))
 
   -- the three counts add up to w × h
   pub add-up : a .numbers .dark + a .numbers .light + a .numbers .skipped ≡ wide * high
@@ -182,7 +184,7 @@ module _ (a : AcceptedReading) where
 
   -- a contrast floor of 0 never skips
   pub floor-0-skips-none : settingsOf .grid .«contrast_floor» ≡ 0 → a .numbers .skipped ≡ 0
-  floor-0-skips-none z = skipped-counted ∙ pixels-empty wide high _ (λ x y. floor-0 (settingsOf .grid) wide high (openedOf settingsOf wide high sourceOf) _ _ z)
+  floor-0-skips-none z = skipped-counted ∙ pixels-empty wide high (skipHere settingsOf wide high sourceOf) (λ x y. floor-0 (settingsOf .grid) wide high (openedOf settingsOf wide high sourceOf) (x / settingsOf .grid .«tile_width») (y / settingsOf .grid .«tile_height») z)
 
   kernels : (3 ≤ settingsOf .division .«structuring_element») × (3 ≤ settingsOf .«opening_kernel»)
   unfolding readingSettings
