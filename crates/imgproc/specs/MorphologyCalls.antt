@@ -47,6 +47,19 @@ comparedAnswer (Compared·Refused e) = refused (errorNumber e)
 abbrev pub morphology : Operation → Operator ℕ ℕ
 morphology operation = record { own = kernelAndRoom; values = operationWalks operation; make = operated operation }
 
+-- the four calls
+abbrev pub erosion : Operator ℕ ℕ
+erosion = morphology Erode
+
+abbrev pub dilation : Operator ℕ ℕ
+dilation = morphology Dilate
+
+abbrev pub opening : Operator ℕ ℕ
+opening = morphology Open
+
+abbrev pub closing : Operator ℕ ℕ
+closing = morphology Close
+
 -- ---- inside: what the parts of an accepted call ask and leave
 
 -- an operation from the first plane of the workspace to the second

@@ -22,7 +22,7 @@ use Rattle.imgproc.specs.Reach.{R}
 use Rattle.imgproc.specs.Refusals.{first, _then_, refusedIf, pairConditions, badKernel, divisionSettings, sauvolaSettings}
 use Rattle.imgproc.specs.RefusalLaws.{both-accepted, taken, not-refused, kernel-says, division-says, Pair, pair-says}
 use Rattle.imgproc.specs.Calls.{Loan, Left, Serves, conditionsOf}
-use Rattle.imgproc.specs.MorphologyCalls.{morphology}
+use Rattle.imgproc.specs.MorphologyCalls.{opening, closing}
 use Rattle.imgproc.specs.MorphologyLaws.{operation-walks}
 use Rattle.imgproc.specs.Grid.{skipOf}
 use Rattle.imgproc.specs.GridLaws.{floor-0}
@@ -205,17 +205,17 @@ module _ (a : AcceptedReading) where
 
   -- they are those of its two operations: what a closing with k and an opening with m of pictures of that size answer, together
   pub compared-as-called :
-      {close opening : Loan ℕ} {closeLeft openLeft : Left} {c o : ℕ}
-      → Serves (morphology Close) close (accepted c) closeLeft
-      → Serves (morphology Open) opening (accepted o) openLeft
+      {close open′ : Loan ℕ} {closeLeft openLeft : Left} {c o : ℕ}
+      → Serves closing close (accepted c) closeLeft
+      → Serves opening open′ (accepted o) openLeft
       → close .settings ≡ settingsOf .division .«structuring_element»
-      → opening .settings ≡ settingsOf .«opening_kernel»
+      → open′ .settings ≡ settingsOf .«opening_kernel»
       → (close .source .width ≡ wide) × (close .source .height ≡ high)
-      → (opening .source .width ≡ wide) × (opening .source .height ≡ high)
+      → (open′ .source .width ≡ wide) × (open′ .source .height ≡ high)
       → a .numbers .comparisons ≡ c + o
-  compared-as-called {close} {opening} {c = c} {o = o} closed opened k m cs os =
+  compared-as-called {close} {open′} {c = c} {o = o} closed opened k m cs os =
       let x : c ≡ 2 * R (settingsOf .division .«structuring_element») wide high =
-      taken (first (conditionsOf (morphology Close) close)) (closed .answers) .1 ∙ rw (k, cs .0, cs .1) (operation-walks Close (settingsOf .division .«structuring_element») wide high (omega (arith, kernels .0))) in
+      taken (first (conditionsOf closing close)) (closed .answers) .1 ∙ rw (k, cs .0, cs .1) (operation-walks Close (settingsOf .division .«structuring_element») wide high (omega (arith, kernels .0))) in
       let y : o ≡ 2 * R (settingsOf .«opening_kernel») wide high =
-      taken (first (conditionsOf (morphology Open) opening)) (opened .answers) .1 ∙ rw (m, os .0, os .1) (operation-walks Open (settingsOf .«opening_kernel») wide high (omega (arith, kernels .1))) in
+      taken (first (conditionsOf opening open′)) (opened .answers) .1 ∙ rw (m, os .0, os .1) (operation-walks Open (settingsOf .«opening_kernel») wide high (omega (arith, kernels .1))) in
       compared .0 ∙ ap₂ (λ (i j : ℕ). i + j) (sym x) (sym y)

@@ -2,7 +2,7 @@
 use Prim.Native.Nat.{ℕ, _%_, _≤_, _<_}
 use native.Mathlib.Nat.{pos-of-ne-zero}
 use native.Mathlib.Omega.{arith}
-use mathlib.Core.Path.{_≡_, refl, sym, ap, _∙_}
+use mathlib.Core.Path.{_≡_, refl, sym, ap, ap₂, _∙_}
 use mathlib.Core.Bool.{Bool, true, false, cond, not, _&&_, _||_}
 use mathlib.Core.List.{List, [], _∷_, _++_}
 use lib.Dec.{eqb, ltb}
@@ -55,6 +55,10 @@ then-refused a b p = first-then a b ∙ ap (λ (c : Check). follow c (first b)) 
 -- after a list that accepts, the next one counts
 pub then-accepted : (a b : Conditions) → first a ≡ Accepted → first (a then b) ≡ first b
 then-accepted a b p = first-then a b ∙ ap (λ (c : Check). follow c (first b)) p
+
+-- lists that come to the same check, one after another
+pub then-same : (a c b d : Conditions) → first a ≡ first c → first b ≡ first d → first (a then b) ≡ first (c then d)
+then-same a c b d p q = first-then a b ∙ ap₂ follow p q ∙ sym (first-then c d)
 
 -- where two lists accept, each does
 pub both-accepted : (a b : Conditions) → first (a then b) ≡ Accepted → (first a ≡ Accepted) × (first b ≡ Accepted)

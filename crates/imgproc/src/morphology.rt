@@ -8,7 +8,7 @@ use crate::tally::Tally;
 use crate::tally::start;
 use image::Geometry;
 use image::Layout;
-ghost use Rattle.imgproc.specs.MorphologyCalls.{OperateReady, Operated, CountReady, Counts, RunReady, Runs, comparedAnswer, morphology};
+ghost use Rattle.imgproc.specs.MorphologyCalls.{OperateReady, Operated, CountReady, Counts, RunReady, Runs, comparedAnswer, morphology, erosion, dilation, opening, closing};
 ghost use Rattle.imgproc.specs.Calls.{Serves};
 
 enum Operation {
@@ -152,7 +152,7 @@ pub fn grayscale_erode_into(
 ) -> Compared
     ensures { λ r.
         ⌜
-        Serves (morphology Operation.Erode)
+        Serves erosion
         (record {
           src = now (src .entry);
           source = «src_geometry»;
@@ -187,7 +187,7 @@ pub fn grayscale_dilate_into(
 ) -> Compared
     ensures { λ r.
         ⌜
-        Serves (morphology Operation.Dilate)
+        Serves dilation
         (record {
           src = now (src .entry);
           source = «src_geometry»;
@@ -222,7 +222,7 @@ pub fn grayscale_open_into(
 ) -> Compared
     ensures { λ r.
         ⌜
-        Serves (morphology Operation.Open)
+        Serves opening
         (record {
           src = now (src .entry);
           source = «src_geometry»;
@@ -257,7 +257,7 @@ pub fn grayscale_close_into(
 ) -> Compared
     ensures { λ r.
         ⌜
-        Serves (morphology Operation.Close)
+        Serves closing
         (record {
           src = now (src .entry);
           source = «src_geometry»;

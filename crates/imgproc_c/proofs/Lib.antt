@@ -1,5 +1,5 @@
 -- The laws that the proofs of this crate share.
 pub mod Numbers
-pub mod OperatorNumbers
+pub mod Exporting
 pub mod GridNumbers
 pub mod ReadingNumbers

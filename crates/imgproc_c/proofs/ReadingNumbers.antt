@@ -1,98 +1,82 @@
--- From the answer of the reading to the export's numbers. Assumes nothing.
-use Prim.Native.Nat.{ℕ, zero, suc}
-use mathlib.Core.Path.{_≡_, refl, ap, subst, _∙_}
-use mathlib.Core.Bool.{Bool, true, false, _||_}
+-- A reading by the method of a number is the reading by its settings. Assumes nothing.
+use Prim.Native.Nat.{ℕ}
+use mathlib.Core.Path.{_≡_, refl, sym, ap, subst, _∙_}
 use mathlib.Core.List.{List}
-use lib.Dec.{eqb}
 use mir.Syntax.{w16}
 use mir.Val.{SFits, toZ, ofZ}
 use mir.ValLaws.{toZ-ofZ}
 use lib.IntN.{ℤ}
 use lib.ListN.{length}
-use lib.Ieee.{Float, lt}
+use lib.Ieee.{Float}
 use Rattle.image.specs.declared.Geometry.{Geometry}
-use Rattle.imgproc.specs.declared.ImgProcError.the-variants.{InvalidConfiguration, InvalidKernel}
+use Rattle.image.specs.Answers.{Answer}
+use Rattle.imgproc.specs.declared.ImgProcError.the-variants.{InvalidKernel}
 use Rattle.imgproc.specs.declared.Check.{Check}
-use Rattle.imgproc.specs.declared.Check.the-variants.{Accepted, Refused}
 use Rattle.imgproc.specs.declared.illumination.BackgroundDivideConfig.{BackgroundDivideConfig}
 use Rattle.imgproc.specs.declared.grid.TileThresholdMethod.{TileThresholdMethod}
 use Rattle.imgproc.specs.declared.threshold.SauvolaConfig.{SauvolaConfig}
-use Rattle.imgproc.specs.declared.reading.ReadingConfig.{ReadingConfig}
-use Rattle.imgproc.specs.declared.reading.ReadingCounts.{ReadingCounts}
-use Rattle.imgproc.specs.declared.reading.Read.{Read}
-use Rattle.imgproc.specs.GridCalls.{gridSettingsCheck}
-use Rattle.imgproc.specs.Reading.{ReadingLent, ReadingLeft, readingCheckOf, countsOf, readingRoom, readBy, Reads}
-use Rattle.imgproc.specs.Refusals.{_then_, refusedIf, pairCheck, badKernel, divisionSettings, sauvolaSettings}
-use Rattle.imgproc_c.specs.Operators.{checkNumber, numberOut}
-use Rattle.imgproc_c.specs.Grid.{methodOf, methodCheck, settings}
-use Rattle.imgproc_c.specs.Reading.{reading, readingNumberCheck, ReadsBy, ReadsNumber, readNumber, darkOut, lightOut, skippedOut, comparisonsOut, ReadOut}
+use Rattle.imgproc.specs.GridCalls.{gridSettings}
+use Rattle.imgproc.specs.Reading.{
+  ReadingLent, ReadingLeft, ReadingNumbers, numbersFrom, readingSettings, readingRoom, readingConditions, Reads,
+}
+use Rattle.imgproc.specs.Refusals.{first, _then_, refusedIf, answerBy, pairConditions, badKernel, divisionSettings, sauvolaSettings}
+use Rattle.imgproc.specs.RefusalLaws.{then-same}
+use Rattle.imgproc_c.specs.Exports.{Tells}
+use Rattle.imgproc_c.specs.Grid.{methodOf, methodConditions, settings}
+use Rattle.imgproc_c.specs.Reading.{readingFrom, numberSettings, numberConditions, ReadsNumber}
+use Rattle.imgproc_c.proofs.Exporting.{tells-as}
+use Rattle.imgproc_c.proofs.GridNumbers.{method-same}
 
--- an answer made of a check has the check's number, and hands out what the check lets out
-read-number : (c : Check) (r : ReadingCounts) → readNumber (readBy c r) ≡ checkNumber c
-read-number Accepted r = refl
-read-number (Refused e) r = refl
+module _ (src : List ℕ) (source : Geometry) (dst : List ℕ) (target : Geometry) (d : BackgroundDivideConfig) (m tw th radius : ℕ) (offset : ℤ) (floor : ℕ)
+    (v : SauvolaConfig) (bytes words : List ℕ) where
+  -- what was lent, with a method and an offset
+  abbrev lentWith : ℤ → TileThresholdMethod → ReadingLent
+  lentWith z t = record {
+    src = src;
+    source = source;
+    dst = dst;
+    target = target;
+    settings = readingFrom d m (settings tw th radius z floor t) v;
+    bytes = bytes;
+    words = words;
+  }
 
-dark-of : (c : Check) (r : ReadingCounts) (held : ℕ) → darkOut (readBy c r) held ≡ numberOut c (r .dark) held
-dark-of Accepted r held = refl
-dark-of (Refused e) r held = refl
+  -- the method is refused where the grid's settings would be
+  settings-same : (n : ℕ) (k range : Float) → let s = lentWith offset (methodOf n k range) .settings in first (readingSettings s) ≡ first (numberSettings n s)
+  unfolding readingSettings numberSettings
+  settings-same n k range =
+      let s = lentWith offset (methodOf n k range) .settings in
+      let kernel = refusedIf (badKernel m) InvalidKernel in
+      let last = sauvolaSettings v in
+      let mine = gridSettings (s .grid) in
+      let theirs = methodConditions n then mine in
+      then-same (divisionSettings d) (divisionSettings d) (kernel then mine then last) (kernel then theirs then last) refl
+      (then-same kernel kernel (mine then last) (theirs then last) refl
+      (then-same mine theirs last last (method-same tw th radius offset floor k range n) refl))
 
-light-of : (c : Check) (r : ReadingCounts) (held : ℕ) → lightOut (readBy c r) held ≡ numberOut c (r .light) held
-light-of Accepted r held = refl
-light-of (Refused e) r held = refl
-
-skipped-of : (c : Check) (r : ReadingCounts) (held : ℕ) → skippedOut (readBy c r) held ≡ numberOut c (r .skipped) held
-skipped-of Accepted r held = refl
-skipped-of (Refused e) r held = refl
-
-comparisons-of : (c : Check) (r : ReadingCounts) (held : ℕ) → comparisonsOut (readBy c r) held ≡ numberOut c (r .tally .comparisons) held
-comparisons-of Accepted r held = refl
-comparisons-of (Refused e) r held = refl
-
-reads-by : {lent : ReadingLent} {held : ReadingCounts} {answer : Read} {number : ℕ} {left : ReadingLeft} {held′ : ReadingCounts} → Reads lent answer left → ReadOut answer held number held′ → ReadsBy (readingCheckOf lent) lent held number left held′
-reads-by {lent = lent} {held = held} b o =
-    let check = readingCheckOf lent in
-    let r = countsOf lent in
-    record {
-      answers = o .answers ∙ ap readNumber (b .answers) ∙ read-number check r;
-      dark-out = o .dark-out ∙ ap (λ (a : Read). darkOut a (held .dark)) (b .answers) ∙ dark-of check r (held .dark);
-      light-out = o .light-out ∙ ap (λ (a : Read). lightOut a (held .light)) (b .answers) ∙ light-of check r (held .light);
-      skipped-out = o .skipped-out ∙ ap (λ (a : Read). skippedOut a (held .skipped)) (b .answers) ∙ skipped-of check r (held .skipped);
-      comparisons-out = o .comparisons-out ∙ ap (λ (a : Read). comparisonsOut a (held .tally .comparisons)) (b .answers) ∙ comparisons-of check r (held .tally .comparisons);
-      leaves = b .leaves;
-      bytes-left = b .bytes-left;
-      words-left = b .words-left;
-    }
-
--- settings that are refused, whatever the tile sides are
-out-of-range : (a b : Bool) (c : Check) → (refusedIf (a || b || true) InvalidConfiguration then c) ≡ (Refused InvalidConfiguration)
-out-of-range true b c = refl
-out-of-range false true c = refl
-out-of-range false false c = refl
-
--- the grid's settings by a method of a number, refused by the number or by themselves
-module _ (tw th radius : ℕ) (offset : ℤ) (floor : ℕ) (k range : Float) (c : Check) where
-  method-check : (n : ℕ) → (gridSettingsCheck (settings tw th radius offset floor (methodOf n k range)) then c) ≡ (methodCheck n then gridSettingsCheck (settings tw th radius offset floor (methodOf n k range)) then c)
-  unfolding lt
-  method-check zero = refl
-  method-check (suc zero) = refl
-  method-check (suc (suc n)) = out-of-range (eqb tw 0) (eqb th 0) c
-
--- a reading by the method of a number; the offset goes through its 16 bits
-abbrev lentWith : List ℕ → Geometry → List ℕ → Geometry → ReadingConfig → List ℕ → List ℕ → ReadingLent
-lentWith src source dst target s bytes words = record { src = src; source = source; dst = dst; target = target; settings = s; bytes = bytes; words = words }
-
-pub reads :
-    {src dst bytes words : List ℕ} {source target : Geometry} {d : BackgroundDivideConfig} {m tw th radius : ℕ} {offset : ℤ} {floor : ℕ} {v : SauvolaConfig} {used : TileThresholdMethod}
-    {held : ReadingCounts} {answer : Read} {number : ℕ} {left : ReadingLeft} {held′ : ReadingCounts} (n : ℕ) (k range : Float)
-    → SFits w16 offset
-    → used ≡ methodOf n k range
-    → Reads (lentWith src source dst target (reading d m (settings tw th radius (toZ w16 (ofZ w16 offset)) floor used) v) bytes words) answer left
-    → ReadOut answer held number held′
-    → ReadsNumber n (lentWith src source dst target (reading d m (settings tw th radius offset floor (methodOf n k range)) v) bytes words) held number left held′
-reads {src} {dst} {bytes} {words} {source} {target} {d} {m} {tw} {th} {radius} {offset} {floor} {v} {used} {held} {answer} {number} {left} {held′} n k range fits is b o =
-    let lent : ℤ → TileThresholdMethod → ReadingLent = λ z t. lentWith src source dst target (reading d m (settings tw th radius z floor t) v) bytes words in
-    let own = subst (λ (t : TileThresholdMethod). Reads (lent offset t) answer left) is (subst (λ (z : ℤ). Reads (lent z used) answer left) (toZ-ofZ w16 offset fits) b) in
-    let checked = ap
-    (λ (c : Check). pairCheck (length src) source (length dst) target then (divisionSettings d then refusedIf (badKernel m) InvalidKernel then c) then readingRoom source (lent offset (methodOf n k range) .settings) (length bytes) (length words))
-    (method-check tw th radius offset floor k range (sauvolaSettings v) n) in
-    subst (λ (c : Check). ReadsBy c (lent offset (methodOf n k range)) held number left held′) checked (reads-by own o)
+  pub reads :
+      {used : TileThresholdMethod} {told : Answer ReadingNumbers} {left : ReadingLeft} {held held′ : ReadingNumbers} {number : ℕ} (n : ℕ) (k range : Float)
+      → SFits w16 offset
+      → used ≡ methodOf n k range
+      → Reads (lentWith (toZ w16 (ofZ w16 offset)) used) told left
+      → Tells told held number held′
+      → ReadsNumber n (lentWith offset (methodOf n k range)) held number left held′
+  reads {used} {told} {left} {held} {held′} {number} n k range fits is b t =
+      let lent = lentWith offset (methodOf n k range) in
+      let own : Reads lent told left =
+      subst (λ (z : TileThresholdMethod). Reads (lentWith offset z) told left) is (subst (λ (z : ℤ). Reads (lentWith z used) told left) (toZ-ofZ w16 offset fits) b) in
+      let pair = pairConditions (length src) source (length dst) target in
+      let room = readingRoom source (lent .settings) (length bytes) (length words) in
+      let mine = readingSettings (lent .settings) in
+      let theirs = numberSettings n (lent .settings) in
+      let same : first (readingConditions lent) ≡ first (numberConditions n lent) =
+      then-same pair pair (mine then room) (theirs then room) refl (then-same mine theirs room room (settings-same n k range) refl) in
+      record {
+        reads = record {
+          answers = refl;
+          leaves = rw (sym same) (own .leaves);
+          bytes-left = rw (sym same) (own .bytes-left);
+          words-left = rw (sym same) (own .words-left);
+        };
+        tells = tells-as (own .answers ∙ ap (λ (c : Check). answerBy c (numbersFrom lent)) same) t;
+      }

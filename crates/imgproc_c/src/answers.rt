@@ -5,13 +5,14 @@ use imgproc::grid::TileThreshold;
 use imgproc::morphology::Compared;
 use imgproc::reading::Read;
 use imgproc::tally;
-ghost use Rattle.imgproc_c.specs.Operators.{Counted};
-ghost use Rattle.imgproc_c.specs.Grid.{Laid, ThresholdAsked, SkipAsked};
-ghost use Rattle.imgproc_c.specs.Reading.{ReadOut};
+ghost use Rattle.imgproc.specs.MorphologyCalls.{comparedAnswer};
+ghost use Rattle.imgproc.specs.GridCalls.{builtAnswer, tileThresholdAnswer, tileSkipAnswer};
+ghost use Rattle.imgproc.specs.Reading.{readAnswer};
+ghost use Rattle.imgproc_c.specs.Exports.{Tells, asByte};
 
 // The count goes to the lent number.
 pub(crate) fn counted(answer: Compared, comparisons: &mut u64) -> u32
-    ensures { λ r. ⌜ Counted answer (now (comparisons .entry)) r (now (comparisons .exit)) ⌝ }
+    ensures { λ r. ⌜ Tells (comparedAnswer answer) (now (comparisons .entry)) r (now (comparisons .exit)) ⌝ }
 {
     match answer {
         Compared::Comparisons(made) => {
@@ -24,7 +25,13 @@ pub(crate) fn counted(answer: Compared, comparisons: &mut u64) -> u32
 
 // The tile counts go to the lent numbers.
 pub(crate) fn built(answer: Built, tiles_x: &mut usize, tiles_y: &mut usize) -> u32
-    ensures { λ r. ⌜ Laid answer (now («tiles_x» .entry)) (now («tiles_y» .entry)) r (now («tiles_x» .exit)) (now («tiles_y» .exit)) ⌝ }
+    ensures { λ r.
+        ⌜
+        Tells (builtAnswer answer)
+        (record { tiles-x = now («tiles_x» .entry); tiles-y = now («tiles_y» .entry) })
+        r
+        (record { tiles-x = now («tiles_x» .exit); tiles-y = now («tiles_y» .exit) })
+        ⌝ }
 {
     match answer {
         Built::Tiles(x, y) => {
@@ -38,7 +45,7 @@ pub(crate) fn built(answer: Built, tiles_x: &mut usize, tiles_y: &mut usize) -> 
 
 // The threshold goes to the lent number.
 pub(crate) fn asked_threshold(answer: TileThreshold, value: &mut u8) -> u32
-    ensures { λ r. ⌜ ThresholdAsked answer (now (value .entry)) r (now (value .exit)) ⌝ }
+    ensures { λ r. ⌜ Tells (tileThresholdAnswer answer) (now (value .entry)) r (now (value .exit)) ⌝ }
 {
     match answer {
         TileThreshold::Value(found) => {
@@ -51,7 +58,7 @@ pub(crate) fn asked_threshold(answer: TileThreshold, value: &mut u8) -> u32
 
 // The skip goes to the lent number, as 0 or 1.
 pub(crate) fn asked_skip(answer: TileSkip, value: &mut u8) -> u32
-    ensures { λ r. ⌜ SkipAsked answer (now (value .entry)) r (now (value .exit)) ⌝ }
+    ensures { λ r. ⌜ Tells (asByte (tileSkipAnswer answer)) (now (value .entry)) r (now (value .exit)) ⌝ }
 {
     match answer {
         TileSkip::Is(skip) => {
@@ -76,10 +83,10 @@ pub(crate) fn read(
 ) -> u32
     ensures { λ r.
         ⌜
-        ReadOut answer
-        (record { dark = now (dark .entry); light = now (light .entry); skipped = now (skipped .entry); tally = record { comparisons = now (comparisons .entry) } })
+        Tells (readAnswer answer)
+        (record { dark = now (dark .entry); light = now (light .entry); skipped = now (skipped .entry); comparisons = now (comparisons .entry) })
         r
-        (record { dark = now (dark .exit); light = now (light .exit); skipped = now (skipped .exit); tally = record { comparisons = now (comparisons .exit) } })
+        (record { dark = now (dark .exit); light = now (light .exit); skipped = now (skipped .exit); comparisons = now (comparisons .exit) })
         ⌝ }
 {
     match answer {

@@ -1,4 +1,4 @@
-// The tile grid, and questions to it.
+// The tile grid, and queries to it.
 use crate::answers::asked_skip;
 use crate::answers::asked_threshold;
 use crate::answers::built;
@@ -8,12 +8,10 @@ use imgproc::grid::TileThresholdConfig;
 use imgproc::grid::TileThresholdGrid;
 use imgproc::grid::TileThresholdMethod;
 ghost use mathlib.Core.Path.{_≡_};
-ghost use Prim.Native.Nat.{_/_, _*_};
-ghost use lib.ListN.{length, getD};
-ghost use Rattle.imgproc.specs.Fold.{bit};
-ghost use Rattle.imgproc.specs.GridCalls.{tileOf, skipped, allSkipped};
+ghost use Rattle.imgproc.specs.GridCalls.{thresholdAsked, skipAsked, rowSkipAsked};
 ghost use Rattle.imgproc_c.specs.Picture.{geometry};
-ghost use Rattle.imgproc_c.specs.Grid.{methodOf, settings, grid, pixelCheck, rowCheck, BuildsNumber, Asks};
+ghost use Rattle.imgproc_c.specs.Exports.{Tells, asByte};
+ghost use Rattle.imgproc_c.specs.Grid.{methodOf, settings, grid, BuildsNumber};
 
 // The method of a number. Any but 0 and 1 gets a range that is refused.
 pub(crate) fn method_of(method: u32, k: f64, dynamic_range: f64) -> TileThresholdMethod
@@ -51,7 +49,22 @@ pub extern "C" fn imgproc_tile_grid_build(
     tiles_x: &mut usize,
     tiles_y: &mut usize,
 ) -> u32
-    ensures { λ r. ⌜ BuildsNumber method (now (src .entry)) (geometry width height stride) (settings «tile_width» «tile_height» «neighborhood_radius» «threshold_offset» «contrast_floor» (methodOf method k «dynamic_range»)) (now (workspace .entry)) (now (thresholds .entry)) (now (skips .entry)) (now («tiles_x» .entry)) (now («tiles_y» .entry)) r (now (workspace .exit)) (now (thresholds .exit)) (now (skips .exit)) (now («tiles_x» .exit)) (now («tiles_y» .exit)) ⌝ }
+    ensures { λ r.
+        ⌜
+        BuildsNumber method
+        (record {
+          src = now (src .entry);
+          source = geometry width height stride;
+          settings = settings «tile_width» «tile_height» «neighborhood_radius» «threshold_offset» «contrast_floor» (methodOf method k «dynamic_range»);
+          workspace = now (workspace .entry);
+          thresholds = now (thresholds .entry);
+          skips = now (skips .entry);
+        })
+        (record { tiles-x = now («tiles_x» .entry); tiles-y = now («tiles_y» .entry) })
+        r
+        (record { workspace = now (workspace .exit); thresholds = now (thresholds .exit); skips = now (skips .exit) })
+        (record { tiles-x = now («tiles_x» .exit); tiles-y = now («tiles_y» .exit) })
+        ⌝ }
 {
     let geometry = Geometry {
         width,
@@ -83,7 +96,7 @@ pub extern "C" fn imgproc_threshold_at(
     y: usize,
     value: &mut u8,
 ) -> u32
-    ensures { λ r. ⌜ Asks (pixelCheck (grid width height «tile_width» «tile_height» «tiles_x» «tiles_y») (length (now (thresholds .entry))) x y) (getD (now (thresholds .entry)) (tileOf (grid width height «tile_width» «tile_height» «tiles_x» «tiles_y») x y) 0) (now (value .entry)) r (now (value .exit)) ⌝ }
+    ensures { λ r. ⌜ Tells (thresholdAsked (grid width height «tile_width» «tile_height» «tiles_x» «tiles_y») (now (thresholds .entry)) x y) (now (value .entry)) r (now (value .exit)) ⌝ }
 {
     let grid = TileThresholdGrid {
         width,
@@ -109,7 +122,7 @@ pub extern "C" fn imgproc_is_skip(
     y: usize,
     value: &mut u8,
 ) -> u32
-    ensures { λ r. ⌜ Asks (pixelCheck (grid width height «tile_width» «tile_height» «tiles_x» «tiles_y») (length (now (skips .entry))) x y) (bit (skipped (now (skips .entry)) (tileOf (grid width height «tile_width» «tile_height» «tiles_x» «tiles_y») x y))) (now (value .entry)) r (now (value .exit)) ⌝ }
+    ensures { λ r. ⌜ Tells (asByte (skipAsked (grid width height «tile_width» «tile_height» «tiles_x» «tiles_y») (now (skips .entry)) x y)) (now (value .entry)) r (now (value .exit)) ⌝ }
 {
     let grid = TileThresholdGrid {
         width,
@@ -134,7 +147,7 @@ pub extern "C" fn imgproc_row_all_skip(
     y: usize,
     value: &mut u8,
 ) -> u32
-    ensures { λ r. ⌜ Asks (rowCheck (grid width height «tile_width» «tile_height» «tiles_x» «tiles_y») (length (now (skips .entry))) y) (bit (allSkipped (now (skips .entry)) (y / «tile_height» * «tiles_x») «tiles_x»)) (now (value .entry)) r (now (value .exit)) ⌝ }
+    ensures { λ r. ⌜ Tells (asByte (rowSkipAsked (grid width height «tile_width» «tile_height» «tiles_x» «tiles_y») (now (skips .entry)) y)) (now (value .entry)) r (now (value .exit)) ⌝ }
 {
     let grid = TileThresholdGrid {
         width,

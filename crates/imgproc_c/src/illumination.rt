@@ -3,7 +3,9 @@ use crate::answers::counted;
 use image::Geometry;
 use imgproc::illumination::BackgroundDivideConfig;
 ghost use Rattle.imgproc_c.specs.Picture.{geometry};
-ghost use Rattle.imgproc_c.specs.Operators.{division, DividesNumber};
+ghost use Rattle.imgproc_c.specs.Exports.{Exports};
+ghost use Rattle.imgproc_c.specs.Operators.{divisionFrom};
+ghost use Rattle.imgproc.specs.Division.{division};
 
 #[no_mangle]
 pub extern "C" fn imgproc_background_divide_into(
@@ -23,13 +25,13 @@ pub extern "C" fn imgproc_background_divide_into(
 ) -> u32
     ensures { λ r.
         ⌜
-        DividesNumber
+        Exports division
         (record {
           src = now (src .entry);
           source = geometry «src_width» «src_height» «src_stride»;
           dst = now (dst .entry);
           target = geometry «dst_width» «dst_height» «dst_stride»;
-          settings = division «structuring_element» «target_luma» «denominator_floor»;
+          settings = divisionFrom «structuring_element» «target_luma» «denominator_floor»;
           workspace = now (workspace .entry);
         })
         (now (comparisons .entry))

@@ -1,10 +1,9 @@
 // Erosion, dilation, opening and closing.
 use crate::answers::counted;
 use image::Geometry;
-ghost use Rattle.imgproc.specs.Reach.{sweepWalks};
-ghost use Rattle.imgproc.specs.Morphology.{eroded, dilated, opened, closed};
+ghost use Rattle.imgproc.specs.MorphologyCalls.{erosion, dilation, opening, closing};
 ghost use Rattle.imgproc_c.specs.Picture.{geometry};
-ghost use Rattle.imgproc_c.specs.Operators.{twoSweepWalks, AppliesNumber};
+ghost use Rattle.imgproc_c.specs.Exports.{Exports};
 
 #[no_mangle]
 pub extern "C" fn imgproc_grayscale_erode_into(
@@ -22,7 +21,7 @@ pub extern "C" fn imgproc_grayscale_erode_into(
 ) -> u32
     ensures { λ r.
         ⌜
-        AppliesNumber eroded sweepWalks
+        Exports erosion
         (record {
           src = now (src .entry);
           source = geometry «src_width» «src_height» «src_stride»;
@@ -74,7 +73,7 @@ pub extern "C" fn imgproc_grayscale_dilate_into(
 ) -> u32
     ensures { λ r.
         ⌜
-        AppliesNumber dilated sweepWalks
+        Exports dilation
         (record {
           src = now (src .entry);
           source = geometry «src_width» «src_height» «src_stride»;
@@ -126,7 +125,7 @@ pub extern "C" fn imgproc_grayscale_open_into(
 ) -> u32
     ensures { λ r.
         ⌜
-        AppliesNumber opened twoSweepWalks
+        Exports opening
         (record {
           src = now (src .entry);
           source = geometry «src_width» «src_height» «src_stride»;
@@ -178,7 +177,7 @@ pub extern "C" fn imgproc_grayscale_close_into(
 ) -> u32
     ensures { λ r.
         ⌜
-        AppliesNumber closed twoSweepWalks
+        Exports closing
         (record {
           src = now (src .entry);
           source = geometry «src_width» «src_height» «src_stride»;

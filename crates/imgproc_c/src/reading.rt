@@ -7,9 +7,9 @@ use imgproc::illumination::BackgroundDivideConfig;
 use imgproc::reading::ReadingConfig;
 use imgproc::threshold::SauvolaConfig;
 ghost use Rattle.imgproc_c.specs.Picture.{geometry};
-ghost use Rattle.imgproc_c.specs.Operators.{division, sauvola};
+ghost use Rattle.imgproc_c.specs.Operators.{divisionFrom, sauvolaFrom};
 ghost use Rattle.imgproc_c.specs.Grid.{methodOf, settings};
-ghost use Rattle.imgproc_c.specs.Reading.{reading, ReadsNumber};
+ghost use Rattle.imgproc_c.specs.Reading.{readingFrom, ReadsNumber};
 
 #[no_mangle]
 pub extern "C" fn imgproc_reading(
@@ -53,18 +53,18 @@ pub extern "C" fn imgproc_reading(
           source = geometry «src_width» «src_height» «src_stride»;
           dst = now (dst .entry);
           target = geometry «dst_width» «dst_height» «dst_stride»;
-          settings = reading
-              (division «structuring_element» «target_luma» «denominator_floor»)
+          settings = readingFrom
+              (divisionFrom «structuring_element» «target_luma» «denominator_floor»)
               «opening_kernel»
               (settings «tile_width» «tile_height» «neighborhood_radius» «threshold_offset» «contrast_floor» (methodOf method k «dynamic_range»))
-              (sauvola radius «k_milli» «sauvola_dynamic_range» «dark_value» «light_value»);
+              (sauvolaFrom radius «k_milli» «sauvola_dynamic_range» «dark_value» «light_value»);
           bytes = now (bytes .entry);
           words = now (words .entry);
         })
-        (record { dark = now (dark .entry); light = now (light .entry); skipped = now (skipped .entry); tally = record { comparisons = now (comparisons .entry) } })
+        (record { dark = now (dark .entry); light = now (light .entry); skipped = now (skipped .entry); comparisons = now (comparisons .entry) })
         r
         (record { dst = now (dst .exit); bytes = now (bytes .exit); words = now (words .exit) })
-        (record { dark = now (dark .exit); light = now (light .exit); skipped = now (skipped .exit); tally = record { comparisons = now (comparisons .exit) } })
+        (record { dark = now (dark .exit); light = now (light .exit); skipped = now (skipped .exit); comparisons = now (comparisons .exit) })
         ⌝ }
 {
     let source = Geometry {

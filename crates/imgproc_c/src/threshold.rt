@@ -2,7 +2,10 @@
 use image::Geometry;
 use imgproc::threshold::SauvolaConfig;
 ghost use Rattle.imgproc_c.specs.Picture.{geometry};
-ghost use Rattle.imgproc_c.specs.Operators.{sauvola, BinarizesNumber};
+ghost use Rattle.imgproc_c.specs.Exports.{Exports};
+ghost use Rattle.imgproc_c.specs.Operators.{sauvolaFrom};
+ghost use Rattle.image.specs.Answers.{bare};
+ghost use Rattle.imgproc.specs.Sauvola.{sauvola};
 
 #[no_mangle]
 pub extern "C" fn imgproc_sauvola_into(
@@ -23,17 +26,19 @@ pub extern "C" fn imgproc_sauvola_into(
 ) -> u32
     ensures { λ r.
         ⌜
-        BinarizesNumber
+        Exports sauvola
         (record {
           src = now (src .entry);
           source = geometry «src_width» «src_height» «src_stride»;
           dst = now (dst .entry);
           target = geometry «dst_width» «dst_height» «dst_stride»;
-          settings = sauvola radius «k_milli» «dynamic_range» «dark_value» «light_value»;
+          settings = sauvolaFrom radius «k_milli» «dynamic_range» «dark_value» «light_value»;
           workspace = now (workspace .entry);
         })
+        bare
         r
         (record { dst = now (dst .exit); workspace = now (workspace .exit) })
+        bare
         ⌝ }
 {
     let source = Geometry {

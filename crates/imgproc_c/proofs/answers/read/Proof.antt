@@ -16,22 +16,10 @@ number-requires : tie.Need-number-requires
 number-requires c κs = search needs
 
 returns : tie.Need-returns
-returns c = record {
-  answers = search needs;
-  dark-out = search needs;
-  light-out = search needs;
-  skipped-out = search needs;
-  comparisons-out = search needs;
-}
+returns c = record { answers = search needs; hands-out = rw (c .before .before .answer .given .1, c .comparisons .ensures) }
 
 returns-2 : tie.Need-returns-2
-returns-2 c = record {
-  answers = search needs;
-  dark-out = search needs;
-  light-out = search needs;
-  skipped-out = search needs;
-  comparisons-out = search needs;
-}
+returns-2 c = record { answers = search needs; hands-out = rw (c .before .before .answer2 .given .1) }
 
 pub read-spec : {M : Type 1} → statement M
 read-spec =

@@ -30,7 +30,8 @@ returns c =
     let m = b .before .before .before .before in
     let o = m .before .before .before .before .before in
     let a = o .args in
-    builds (now (a .src)) (geometry (a .width) (a .height) (a .stride)) (a .tile-width) (a .tile-height) (a .neighborhood-radius) (a .threshold-offset) (o .fits .threshold-offset) (a .contrast-floor) (a .method) (a .k) (a .dynamic-range) (m .method-of .ensures) (now (a .workspace)) (now (a .thresholds)) (now (a .skips)) (now (a .tiles-x)) (now (a .tiles-y)) (b .build .ensures) (c .built .ensures)
+    builds (now (a .src)) (geometry (a .width) (a .height) (a .stride)) (now (a .workspace)) (now (a .thresholds)) (now (a .skips)) (a .tile-width) (a .tile-height) (a .neighborhood-radius)
+    (a .threshold-offset) (a .contrast-floor) (a .method) (a .k) (a .dynamic-range) (o .fits .threshold-offset) (m .method-of .ensures) (b .build .ensures) (c .built .ensures)
 
 pub imgproc-tile-grid-build-spec : {M : Type 1} → statement M
 imgproc-tile-grid-build-spec =

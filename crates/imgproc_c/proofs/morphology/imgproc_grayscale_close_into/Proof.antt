@@ -1,6 +1,6 @@
 -- The answer of the call, by number, and its count. Assumes nothing.
 use borrow.Author.Needs.{needs}
-use Rattle.imgproc_c.proofs.OperatorNumbers.{counts-number}
+use Rattle.imgproc_c.proofs.Exporting.{exports}
 use Rattle.imgproc_c.proofs.morphology.imgproc_grayscale_close_into.Statement.{statement}
 use Rattle.imgproc_c.proofs.morphology.imgproc_grayscale_close_into.Tie as tie
 
@@ -17,7 +17,7 @@ same-length-2 : tie.Need-same-length-2
 same-length-2 c = search needs
 
 returns : tie.Need-returns
-returns c = counts-number (c .before .before .before .before .before .before .grayscale-close-into .ensures) (c .counted .ensures)
+returns c = exports (c .before .before .before .before .before .before .grayscale-close-into .ensures) (c .counted .ensures)
 
 pub imgproc-grayscale-close-into-spec : {M : Type 1} → statement M
 imgproc-grayscale-close-into-spec =

@@ -1,5 +1,6 @@
 -- The answer of the call, by number, and its four counts. Assumes nothing.
 use borrow.Author.Needs.{needs}
+use denote.Ref.{now}
 use Rattle.imgproc_c.proofs.ReadingNumbers.{reads}
 use Rattle.imgproc_c.proofs.reading.imgproc_reading.Statement.{statement}
 use Rattle.imgproc_c.proofs.reading.imgproc_reading.Tie as tie
@@ -27,7 +28,8 @@ returns c =
     let b = c .before .before .before .before .before .before .before .before .before .before .before in
     let m = b .before .before .before .before in
     let o = m .before .before .before .before .before in
-    reads (o .args .method) (o .args .k) (o .args .dynamic-range) (o .fits .threshold-offset) (m .method-of .ensures) (b .reading .ensures) (c .read .ensures)
+    let a = o .args in
+    reads (now (a .src)) _ (now (a .dst)) _ _ _ _ _ _ (a .threshold-offset) _ _ (now (a .bytes)) (now (a .words)) (a .method) (a .k) (a .dynamic-range) (o .fits .threshold-offset) (m .method-of .ensures) (b .reading .ensures) (c .read .ensures)
 
 pub imgproc-reading-spec : {M : Type 1} → statement M
 imgproc-reading-spec =

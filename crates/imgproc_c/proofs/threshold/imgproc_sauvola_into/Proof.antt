@@ -1,6 +1,6 @@
 -- The answer of the call, by number. Assumes nothing.
 use borrow.Author.Needs.{needs}
-use Rattle.imgproc_c.proofs.OperatorNumbers.{binarizes}
+use Rattle.imgproc_c.proofs.Exporting.{exports, tells-bare}
 use Rattle.imgproc_c.proofs.threshold.imgproc_sauvola_into.Statement.{statement}
 use Rattle.imgproc_c.proofs.threshold.imgproc_sauvola_into.Tie as tie
 
@@ -17,7 +17,7 @@ same-length-2 : tie.Need-same-length-2
 same-length-2 c = search needs
 
 returns : tie.Need-returns
-returns c = binarizes (c .before .before .before .before .before .sauvola-into .ensures) (c .binarized-number .ensures)
+returns c = exports (c .before .before .before .before .before .sauvola-into .ensures) (tells-bare (c .binarized-number .ensures))
 
 pub imgproc-sauvola-into-spec : {M : Type 1} → statement M
 imgproc-sauvola-into-spec =
