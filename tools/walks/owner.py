@@ -180,21 +180,26 @@ def take_back(w, call, places):
 
 def numbers_file(owner, code, paths, header):
     numbers = Numbers(owner.types)
+    named = [f'{dashed(name)} x' for name in owner.names]
+    parts = [
+        f'abbrev pub {dashed(name)} : Own → {number.denoted}\n{named[i]} = {numbers.term(i)}'
+        for i, (name, number) in enumerate(zip(owner.names, numbers.all))
+    ]
     calls = []
-    for k, (name, given) in enumerate(owner.calls, 1):
-        fits = [f'({numbers.fit(i)})' for i in given if i in numbers.sized]
-        calls.append(f'abbrev pub num-{k} : Own → Nums\nnum-{k} x = {paired(numbers.term(i) for i in given)}')
+    for k, (_, given) in enumerate(owner.calls, 1):
+        fits = [numbers.fit(i) for i in given if i in numbers.sized]
+        calls.append(f'abbrev pub num-{k} : Own → Nums\nnum-{k} x = {paired(named[i] for i in given)}')
         calls.append(f'pub fit-{k} : (x : Own) → OwnFit x → NumsFit (num-{k} x)\nfit-{k} x fit = {paired(fits[:-1], fits[-1])}')
     texts = numbers.texts()
     values = dict(
         header=header(NUMBERS.format(owner.name)),
         used=code.used(owner.asked, owner.said),
-        names=', '.join(owner.names),
         type=texts['type'],
+        parts='\n\n'.join(parts),
         fit_type=texts['fit_type'],
         calls='\n\n'.join(calls),
-        asked=owner.over(owner.asked),
-        done=owner.over(owner.said),
+        asked=owner.over(owner.asked, named),
+        done=owner.over(owner.said, named),
     )
     return filled('numbers.txt', **values, **paths)
 

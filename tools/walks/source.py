@@ -21,8 +21,8 @@ class Function:
         self.names = [name for name, _ in self.parameters[2:]]
         self.types = kinds[2:]
 
-    def over(self, term):
-        """A term of the contract over the tuple x of the numbers, t and d before, r and d′ after."""
+    def over(self, term, numbers):
+        """A term of the contract over these numbers, t and d before, r and d′ after."""
         tally, lent = re.escape(self.tally), re.escape(self.slice)
         forms = [
             (rf'\(now \({tally} \.entry\)\)|\(now {tally}\)', 't'),
@@ -31,7 +31,7 @@ class Function:
             (rf'\(now \({lent} \.exit\)\)', 'd′'),
             (rf'(?<![\w.]){tally}(?!\w)', 't'),
         ]
-        forms += [(rf'«{name}»|(?<![\w.«]){name}(?!\w)', f'(x{" .1" * i} .0)') for i, name in enumerate(self.names)]
+        forms += [(rf'«{name}»|(?<![\w.«]){name}(?!\w)', f'({number})') for name, number in zip(self.names, numbers)]
         pattern = '|'.join(f'({form})' for form, _ in forms)
         return re.sub(pattern, lambda found: next(text for (form, text) in forms if re.fullmatch(form, found[0])), term)
 

@@ -1,6 +1,6 @@
 """The thin sweeps: `*tally = core(*tally, slice, numbers..);`, and calls of them."""
 
-from terms import Numbers, dashed, filled, listed, paired, product
+from terms import Numbers, dashed, filled, listed, paired, part, product
 from walk import HERE, SHOWN, Walk, typed
 
 
@@ -146,13 +146,14 @@ def called_file(code, paths, header):
 
 
 def says_file(code, paths, header):
+    terms = [f'x{part(i)}' for i in range(len(code.first.names))]
     says = [
         f'abbrev pub {sweep.says} : Tally → List ℕ → Nums → Tally → List ℕ → Type 0\n'
-        f'{sweep.says} t d x r d′ = {sweep.over(sweep.said)}'
+        f'{sweep.says} t d x r d′ = {sweep.over(sweep.said, terms)}'
         for sweep in code.sweeps.values()
     ]
     used = code.used(code.first.asked, *(sweep.said for sweep in code.sweeps.values()))
-    asks = code.first.over(code.first.asked)
+    asks = code.first.over(code.first.asked, terms)
     lead = header(SAYS.format(', '.join(code.first.names)))
     return filled('says.txt', header=lead, used=used, asks=asks, says='\n\n'.join(says), **paths)
 

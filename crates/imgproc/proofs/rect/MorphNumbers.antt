@@ -8,9 +8,33 @@ use Rattle.imgproc.specs.declared.tally.Tally.{Tally}
 use Rattle.imgproc.specs.Sweeps.{MorphReady, Morphed}
 use Rattle.imgproc.proofs.rect.Thin.{Nums, NumsFit}
 
--- its numbers: from, to, spare, row_kernel, column_kernel, width, height, side
+-- its numbers, and the name of each
 abbrev pub Own : Type 0
 Own = ℕ × (ℕ × (ℕ × (ℕ × (ℕ × (ℕ × (ℕ × (Bool × Unit {0})))))))
+
+abbrev pub from : Own → ℕ
+from x = x .0
+
+abbrev pub to : Own → ℕ
+to x = x .1 .0
+
+abbrev pub spare : Own → ℕ
+spare x = x .1 .1 .0
+
+abbrev pub row-kernel : Own → ℕ
+row-kernel x = x .1 .1 .1 .0
+
+abbrev pub column-kernel : Own → ℕ
+column-kernel x = x .1 .1 .1 .1 .0
+
+abbrev pub width : Own → ℕ
+width x = x .1 .1 .1 .1 .1 .0
+
+abbrev pub height : Own → ℕ
+height x = x .1 .1 .1 .1 .1 .1 .0
+
+abbrev pub side : Own → Bool
+side x = x .1 .1 .1 .1 .1 .1 .1 .0
 
 abbrev pub OwnFit : Own → Type 0
 OwnFit x = (x .0 < 2 ^ 64) × ((x .1 .0 < 2 ^ 64) ×
@@ -19,22 +43,21 @@ OwnFit x = (x .0 < 2 ^ 64) × ((x .1 .0 < 2 ^ 64) ×
 
 -- the numbers of each call, and that they fit
 abbrev pub num-1 : Own → Nums
-num-1 x = (x .0, (x .1 .0, (x .1 .1 .0, (x .1 .1 .1 .0, (x .1 .1 .1 .1 .1 .0, (x .1 .1 .1 .1 .1 .1 .0, (x .1 .1 .1 .1 .1 .1 .1 .0, tt)))))))
+num-1 x = (from x, (to x, (spare x, (row-kernel x, (width x, (height x, (side x, tt)))))))
 
 pub fit-1 : (x : Own) → OwnFit x → NumsFit (num-1 x)
-fit-1 x fit = ((fit .0), ((fit .1 .0), ((fit .1 .1 .0), ((fit .1 .1 .1 .0), ((fit .1 .1 .1 .1 .1 .0), (fit .1 .1 .1 .1 .1 .1))))))
+fit-1 x fit = (fit .0, (fit .1 .0, (fit .1 .1 .0, (fit .1 .1 .1 .0, (fit .1 .1 .1 .1 .1 .0, fit .1 .1 .1 .1 .1 .1)))))
 
 abbrev pub num-2 : Own → Nums
-num-2 x = (x .1 .0, (x .1 .0, (x .1 .1 .0, (x .1 .1 .1 .1 .0, (x .1 .1 .1 .1 .1 .0, (x .1 .1 .1 .1 .1 .1 .0, (x .1 .1 .1 .1 .1 .1 .1 .0, tt)))))))
+num-2 x = (to x, (to x, (spare x, (column-kernel x, (width x, (height x, (side x, tt)))))))
 
 pub fit-2 : (x : Own) → OwnFit x → NumsFit (num-2 x)
-fit-2 x fit = ((fit .1 .0), ((fit .1 .0), ((fit .1 .1 .0), ((fit .1 .1 .1 .1 .0), ((fit .1 .1 .1 .1 .1 .0), (fit .1 .1 .1 .1 .1 .1))))))
+fit-2 x fit = (fit .1 .0, (fit .1 .0, (fit .1 .1 .0, (fit .1 .1 .1 .1 .0, (fit .1 .1 .1 .1 .1 .0, fit .1 .1 .1 .1 .1 .1)))))
 
 -- what is asked
 abbrev pub Asked : Tally → List ℕ → Own → Type 0
-Asked t d x = MorphReady t d (x .0) (x .1 .0) (x .1 .1 .0) (x .1 .1 .1 .0) (x .1 .1 .1 .1 .0) (x .1 .1 .1 .1 .1 .0) (x .1 .1 .1 .1 .1 .1 .0)
+Asked t d x = MorphReady t d (from x) (to x) (spare x) (row-kernel x) (column-kernel x) (width x) (height x)
 
 -- what is said of the tally and the list at entry, of the tally that is returned, and of the list at exit
 abbrev pub Done : Tally → List ℕ → Own → Tally → List ℕ → Type 0
-Done t d x r d′ = Morphed t d (x .0) (x .1 .0) (x .1 .1 .0) (x .1 .1 .1 .0) (x .1 .1 .1 .1 .0) (x .1 .1 .1 .1 .1 .0) (x .1 .1 .1 .1 .1 .1 .0)
-    (x .1 .1 .1 .1 .1 .1 .1 .0) r d′
+Done t d x r d′ = Morphed t d (from x) (to x) (spare x) (row-kernel x) (column-kernel x) (width x) (height x) (side x) r d′

@@ -8,9 +8,36 @@ use Rattle.imgproc.specs.declared.tally.Tally.{Tally}
 use Rattle.imgproc.specs.Sweeps.{PairReady, PairMorphed}
 use Rattle.imgproc.proofs.rect.Thin.{Nums, NumsFit}
 
--- its numbers: from, to, spare, across, down, width, height, first, second
+-- its numbers, and the name of each
 abbrev pub Own : Type 0
 Own = ℕ × (ℕ × (ℕ × (ℕ × (ℕ × (ℕ × (ℕ × (Bool × (Bool × Unit {0}))))))))
+
+abbrev pub from : Own → ℕ
+from x = x .0
+
+abbrev pub to : Own → ℕ
+to x = x .1 .0
+
+abbrev pub spare : Own → ℕ
+spare x = x .1 .1 .0
+
+abbrev pub across : Own → ℕ
+across x = x .1 .1 .1 .0
+
+abbrev pub down : Own → ℕ
+down x = x .1 .1 .1 .1 .0
+
+abbrev pub width : Own → ℕ
+width x = x .1 .1 .1 .1 .1 .0
+
+abbrev pub height : Own → ℕ
+height x = x .1 .1 .1 .1 .1 .1 .0
+
+abbrev pub first : Own → Bool
+first x = x .1 .1 .1 .1 .1 .1 .1 .0
+
+abbrev pub second : Own → Bool
+second x = x .1 .1 .1 .1 .1 .1 .1 .1 .0
 
 abbrev pub OwnFit : Own → Type 0
 OwnFit x = (x .0 < 2 ^ 64) × ((x .1 .0 < 2 ^ 64) ×
@@ -19,34 +46,33 @@ OwnFit x = (x .0 < 2 ^ 64) × ((x .1 .0 < 2 ^ 64) ×
 
 -- the numbers of each call, and that they fit
 abbrev pub num-1 : Own → Nums
-num-1 x = (x .0, (x .1 .0, (x .1 .1 .0, (x .1 .1 .1 .0, (x .1 .1 .1 .1 .1 .0, (x .1 .1 .1 .1 .1 .1 .0, (x .1 .1 .1 .1 .1 .1 .1 .0, tt)))))))
+num-1 x = (from x, (to x, (spare x, (across x, (width x, (height x, (first x, tt)))))))
 
 pub fit-1 : (x : Own) → OwnFit x → NumsFit (num-1 x)
-fit-1 x fit = ((fit .0), ((fit .1 .0), ((fit .1 .1 .0), ((fit .1 .1 .1 .0), ((fit .1 .1 .1 .1 .1 .0), (fit .1 .1 .1 .1 .1 .1))))))
+fit-1 x fit = (fit .0, (fit .1 .0, (fit .1 .1 .0, (fit .1 .1 .1 .0, (fit .1 .1 .1 .1 .1 .0, fit .1 .1 .1 .1 .1 .1)))))
 
 abbrev pub num-2 : Own → Nums
-num-2 x = (x .1 .0, (x .1 .0, (x .1 .1 .0, (x .1 .1 .1 .1 .0, (x .1 .1 .1 .1 .1 .0, (x .1 .1 .1 .1 .1 .1 .0, (x .1 .1 .1 .1 .1 .1 .1 .0, tt)))))))
+num-2 x = (to x, (to x, (spare x, (down x, (width x, (height x, (first x, tt)))))))
 
 pub fit-2 : (x : Own) → OwnFit x → NumsFit (num-2 x)
-fit-2 x fit = ((fit .1 .0), ((fit .1 .0), ((fit .1 .1 .0), ((fit .1 .1 .1 .1 .0), ((fit .1 .1 .1 .1 .1 .0), (fit .1 .1 .1 .1 .1 .1))))))
+fit-2 x fit = (fit .1 .0, (fit .1 .0, (fit .1 .1 .0, (fit .1 .1 .1 .1 .0, (fit .1 .1 .1 .1 .1 .0, fit .1 .1 .1 .1 .1 .1)))))
 
 abbrev pub num-3 : Own → Nums
-num-3 x = (x .1 .0, (x .1 .0, (x .1 .1 .0, (x .1 .1 .1 .0, (x .1 .1 .1 .1 .1 .0, (x .1 .1 .1 .1 .1 .1 .0, (x .1 .1 .1 .1 .1 .1 .1 .1 .0, tt)))))))
+num-3 x = (to x, (to x, (spare x, (across x, (width x, (height x, (second x, tt)))))))
 
 pub fit-3 : (x : Own) → OwnFit x → NumsFit (num-3 x)
-fit-3 x fit = ((fit .1 .0), ((fit .1 .0), ((fit .1 .1 .0), ((fit .1 .1 .1 .0), ((fit .1 .1 .1 .1 .1 .0), (fit .1 .1 .1 .1 .1 .1))))))
+fit-3 x fit = (fit .1 .0, (fit .1 .0, (fit .1 .1 .0, (fit .1 .1 .1 .0, (fit .1 .1 .1 .1 .1 .0, fit .1 .1 .1 .1 .1 .1)))))
 
 abbrev pub num-4 : Own → Nums
-num-4 x = (x .1 .0, (x .1 .0, (x .1 .1 .0, (x .1 .1 .1 .1 .0, (x .1 .1 .1 .1 .1 .0, (x .1 .1 .1 .1 .1 .1 .0, (x .1 .1 .1 .1 .1 .1 .1 .1 .0, tt)))))))
+num-4 x = (to x, (to x, (spare x, (down x, (width x, (height x, (second x, tt)))))))
 
 pub fit-4 : (x : Own) → OwnFit x → NumsFit (num-4 x)
-fit-4 x fit = ((fit .1 .0), ((fit .1 .0), ((fit .1 .1 .0), ((fit .1 .1 .1 .1 .0), ((fit .1 .1 .1 .1 .1 .0), (fit .1 .1 .1 .1 .1 .1))))))
+fit-4 x fit = (fit .1 .0, (fit .1 .0, (fit .1 .1 .0, (fit .1 .1 .1 .1 .0, (fit .1 .1 .1 .1 .1 .0, fit .1 .1 .1 .1 .1 .1)))))
 
 -- what is asked
 abbrev pub Asked : Tally → List ℕ → Own → Type 0
-Asked t d x = PairReady t d (x .0) (x .1 .0) (x .1 .1 .0) (x .1 .1 .1 .0) (x .1 .1 .1 .1 .0) (x .1 .1 .1 .1 .1 .0) (x .1 .1 .1 .1 .1 .1 .0)
+Asked t d x = PairReady t d (from x) (to x) (spare x) (across x) (down x) (width x) (height x)
 
 -- what is said of the tally and the list at entry, of the tally that is returned, and of the list at exit
 abbrev pub Done : Tally → List ℕ → Own → Tally → List ℕ → Type 0
-Done t d x r d′ = PairMorphed t d (x .0) (x .1 .0) (x .1 .1 .0) (x .1 .1 .1 .0) (x .1 .1 .1 .1 .0) (x .1 .1 .1 .1 .1 .0) (x .1 .1 .1 .1 .1 .1 .0)
-    (x .1 .1 .1 .1 .1 .1 .1 .0) (x .1 .1 .1 .1 .1 .1 .1 .1 .0) r d′
+Done t d x r d′ = PairMorphed t d (from x) (to x) (spare x) (across x) (down x) (width x) (height x) (first x) (second x) r d′
