@@ -1,5 +1,5 @@
-"""Generates the proofs of the thin sweeps and of their owners, which the kit cannot make, since its borrow checker covers
-no function that takes or makes a reference to a struct.
+"""Generates the proofs of the thin sweeps and of their owners, which the kit cannot make, since its borrow checker
+covers no function that takes or makes a reference to a struct.
     python3 tools/walks            writes them
     python3 tools/walks --check    says which of those that stand are not what would be written, and fails then
 All of it follows from the signatures, the contracts and the bodies in one module of the code, which table.py names."""
@@ -62,11 +62,16 @@ def formatted(made):
         return {name: Path(folder, name).read_text() for name in made}
 
 
+def standing(name):
+    path = ROOT / name
+    return path.read_text() if path.is_file() else None
+
+
 def main(words):
     if words not in ([], ['--check']):
         sys.exit('usage: python3 tools/walks [--check]')
     made = formatted(texts())
-    differing = [name for name, text in made.items() if not (ROOT / name).is_file() or (ROOT / name).read_text() != text]
+    differing = [name for name, text in made.items() if standing(name) != text]
     if words:
         for name in differing:
             print(f'{name} is not what tools/walks generates')

@@ -1,5 +1,5 @@
-"""Breaks long lines where the formatter keeps a break: nowhere inside a bracket that has commas, unless each of its parts
-gets a line. How far the lines are indented is the formatter's."""
+"""Breaks long lines where the formatter keeps a break: nowhere inside a bracket that has commas, unless each of its
+parts gets a line. The formatter indents them."""
 
 import re
 
@@ -46,13 +46,13 @@ def comment(text, lead):
 
 
 def cut(line, indent):
-    """The line in parts, each cut at the outermost place that is not too far left."""
+    """The line in parts, each cut at the outermost place of its right half, or else of its left."""
     lines = []
     while len(line) > WIDTH:
-        places = [(depth, bad, -at) for at, depth, bad in spaces(line) if len(indent) + 40 < at <= WIDTH]
+        places = [(at < (len(indent) + WIDTH) / 2, depth, bad, -at) for at, depth, bad in spaces(line) if at <= WIDTH]
         if not places:
             return [*lines, *exploded(line, indent)]
-        at = -min(places)[2]
+        at = -min(places)[3]
         lines.append(line[:at])
         line = indent + line[at + 1:]
     return [*lines, line]
@@ -67,7 +67,7 @@ def exploded(line, indent):
 
 
 def spaces(line):
-    """Each place where the line may be cut: how many brackets that it closes are open there, and whether it is a bad one."""
+    """Each place where the line may be cut, how many of its brackets are open there, and whether it is a bad one."""
     partners, open_, places = matched(line), [], []
     for at, sign in enumerate(line):
         if at in partners:

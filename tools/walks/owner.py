@@ -6,8 +6,8 @@ from walk import HERE, Walk, typed
 
 class Places:
     """Where the MIR of an owner has what it takes and makes: _0 is the result, _1 the tally, _2 the slice, then the
-    numbers; behind them the tally that is lent, and what a sweep answers; then for each call a reference to the tally, a
-    pointer, and the slice that the sweep gets."""
+    numbers; behind them the tally that is lent, and what a sweep answers; then for each call a reference to the tally,
+    a pointer, and the slice that the sweep gets."""
 
     def __init__(self, owner):
         count = len(owner.names)
@@ -98,9 +98,10 @@ def lend(w, call, places):
     w.line()
     if not call.last:
         lend_slice(w, call)
-    held = f'‵ (Ref 𝓤 H A W (ν{k} ∷ []) {places.address} (named 0) γ{k} {call.tally}) ⊛ ‵ (Held 𝓤 H A W (ν{k} ∷ []) {places.address} γ{k})'
+    where = f'𝓤 H A W (ν{k} ∷ []) {places.address}'
+    lent = f'‵ (Ref {where} (named 0) γ{k} {call.tally}) ⊛ ‵ (Held {where} γ{k})'
     w.front(places.tally)
-    w.step(f'use1 W (later (some (λ (γ{k} : GName). {held}))) (local-lends 𝓤 H A W (ν{k} ∷ []) {places.address} (named 0) {call.tally} {call.fits})')
+    w.step(f'use1 W (later (some (λ (γ{k} : GName). {lent}))) (local-lends {where} (named 0) {call.tally} {call.fits})')
     w.step('await ! tt')
     w.text(f'pick ! (λ γ{k}.')
     w.split('t', 'held')
@@ -108,14 +109,18 @@ def lend(w, call, places):
 
 
 def again(call):
+    """What `SliceAgain.antt` is taken at."""
     return f'u8 κ {call.life} q γ b o'
 
 
 def lend_slice(w, call):
+    """Lends the slice again; what is kept of it takes it back."""
     k = call.k
     w.front('ws', 'tok')
-    lent = f'‵ (MutSlice (named 1) {call.life} u8 .own (lent δ{k} {call.list}) (v ∷ [])) ⊛ ‵ (LentAgain {again(call)} δ{k} {call.list})'
-    w.step(f'use2 W (later (some (λ (δ{k} : GName). {lent}))) (lends-again-at {again(call)} 𝓤 H A W (named 0) (named 1) {call.list} (length l) {call.long})')
+    lent = f'‵ (MutSlice (named 1) {call.life} u8 .own (lent δ{k} {call.list}) (v ∷ []))'
+    kept = f'‵ (LentAgain {again(call)} δ{k} {call.list})'
+    rule = f'lends-again-at {again(call)} 𝓤 H A W (named 0) (named 1) {call.list} (length l) {call.long}'
+    w.step(f'use2 W (later (some (λ (δ{k} : GName). {lent} ⊛ {kept}))) ({rule})')
     w.step('await ! tt')
     w.text(f'pick ! (λ δ{k}.')
     w.replace(2, 'both')
@@ -156,7 +161,8 @@ def take_back(w, call, places):
     w.step('lft-end ! tt')
     w.rename(f'ν{k}', 'dead')
     w.front('dead', 'held', 'res')
-    w.step(f'use3 W (later (given (Fits r{k}) (‵ (cell {places.address} r{k})))) (local-back 𝓤 H A W (ν{k} ∷ []) {places.address} γ{k} r{k})')
+    back = f'later (given (Fits r{k}) (‵ (cell {places.address} r{k})))'
+    w.step(f'use3 W ({back}) (local-back 𝓤 H A W (ν{k} ∷ []) {places.address} γ{k} r{k})')
     w.step('await ! tt')
     w.text(f'learn ! (λ fits{k}.')
     w.replace(3, places.tally)
@@ -170,8 +176,8 @@ def take_back(w, call, places):
     w.front('dead', 'kept', 'fin')
     room = 'room' if k == 1 else f'(subst (Room u8) (sym {call.long}) room)'
     back = f'‵ (MutSlice (named 0) κ u8 .own (lent γ zs{k}) (v ∷ [])) ⊛ ‵ (flft κ q)'
-    rule = f'comes-back-at {again(call)} 𝓤 H A W (named 0) (named 1) {call.list} (length l) {call.long} δ{k} zs{k} {room} (e{k} .1 .1)'
-    w.step(f'use3 W (later ({back})) ({rule})')
+    rule = f'comes-back-at {again(call)} 𝓤 H A W (named 0) (named 1) {call.list} (length l) {call.long}'
+    w.step(f'use3 W (later ({back})) ({rule} δ{k} zs{k} {room} (e{k} .1 .1))')
     w.step('await ! tt')
     w.replace(3, 'both')
     w.split('ws', 'tok')
@@ -188,8 +194,9 @@ def numbers_file(owner, code, paths, header):
     calls = []
     for k, (_, given) in enumerate(owner.calls, 1):
         fits = [numbers.fit(i) for i in given if i in numbers.sized]
+        fit = paired(fits[:-1], fits[-1])
         calls.append(f'abbrev pub num-{k} : Own → Nums\nnum-{k} x = {paired(named[i] for i in given)}')
-        calls.append(f'pub fit-{k} : (x : Own) → OwnFit x → NumsFit (num-{k} x)\nfit-{k} x fit = {paired(fits[:-1], fits[-1])}')
+        calls.append(f'pub fit-{k} : (x : Own) → OwnFit x → NumsFit (num-{k} x)\nfit-{k} x fit = {fit}')
     texts = numbers.texts()
     values = dict(
         header=header(NUMBERS.format(owner.name)),
@@ -207,14 +214,13 @@ def numbers_file(owner, code, paths, header):
 def cited(i, name, paths):
     symbol = f'{paths["dotted"]}·{dashed(name)}'
     triple = f'(tripleOf 𝓤 H (𝓖 .A) call-{i}.signature (call-{i}.spec 𝓤 H (𝓖 .A) (𝓜 .mem) (𝓡 .run)))'
-    return f'    (cited 𝓤 H {triple} 𝓜 𝓡 code.env #call-{i} call-{i}-def.routine code.calls-{symbol} (call-{i}-thm.met 𝓤 H 𝓜 𝓖 𝓡))'
+    met = f'code.calls-{symbol} (call-{i}-thm.met 𝓤 H 𝓜 𝓖 𝓡)'
+    return f'    (cited 𝓤 H {triple} 𝓜 𝓡 code.env #call-{i} call-{i}-def.routine {met})'
 
 
 def used(i, name, paths):
-    path = f'use {paths["here"]}.{name}'
-    return '\n'.join([
-        f'{path} as call-{i}', f'{path}.Symbol as call-{i}-def', f'{path}.Symbol.{{name as #call-{i}}}', f'{path}.Met as call-{i}-thm',
-    ])
+    parts = ['{} as call-{}', '{}.Symbol as call-{}-def', '{}.Symbol.{{name as #call-{}}}', '{}.Met as call-{}-thm']
+    return '\n'.join('use ' + part.format(f'{paths["here"]}.{name}', i) for part in parts)
 
 
 def owner_file(owner, code, facts, paths, header):
@@ -248,12 +254,12 @@ def owner_file(owner, code, facts, paths, header):
 
 
 NUMBERS = """\
-The numbers of `{}` as its walk has them, those that it gives to each sweep, and what it asks and does over them. Assumes
-nothing."""
+The numbers of `{}` as its walk has them, those that it gives to each sweep, and what it asks and does over them.
+Assumes nothing."""
 PROOF = """\
-`{0}` meets its contract: a walk of its MIR. The borrow checker covers no function that makes a reference to a struct, so
-the kit makes no such proof. In order: the tally that it is given is put into a local; for each sweep the local is lent for a
-lifetime made for that call (`LocalTally.antt`), the slice is lent again beside it (`SliceAgain.antt`; to the last sweep it is
-given up for good), the sweep is called, and both come back; then the local is returned. `walk` has a line or more for each
-statement of the MIR; its numbers are positions in the context, which the lines in brackets list. All that it knows of the
-sweeps is `Called.antt`; the plain facts are those of `{1}Facts.antt`, by hand. Assumes nothing."""
+`{0}` meets its contract: a walk of its MIR. The borrow checker covers no function that makes a reference to a struct,
+so the kit has none. In order: the tally that it is given is put into a local; for each sweep the local is lent for a
+lifetime made for that call (`LocalTally.antt`), the slice is lent again beside it (`SliceAgain.antt`; to the last sweep
+it is given up for good), the sweep is called, and both come back; then the local is returned. `walk` has a line or more
+for each statement of the MIR; its numbers are positions in the context, which the lines in brackets list. All that it
+knows of the sweeps is `Called.antt`; the plain facts are those of `{1}Facts.antt`, by hand. Assumes nothing."""

@@ -12,7 +12,7 @@ class Function:
 
     def __init__(self, name, parameters, asked, said, body):
         self.name, self.asked, self.said, self.body = name, asked, said, body
-        self.parameters = [tuple(re.split(r':\s*', text.strip(), maxsplit=1)) for text in parameters.split(',') if text.strip()]
+        self.parameters = re.findall(r'(\w+):\s*([^,]+?)\s*(?:,|$)', parameters)
         kinds = [kind for _, kind in self.parameters]
         self.tally_is_lent = kinds[0] == '&mut Tally'
         if kinds[0] not in ('Tally', '&mut Tally') or kinds[1:2] != ['&mut [u8]']:
@@ -81,7 +81,7 @@ class Sweep(Function):
         self.__dict__.update(function.__dict__)
         statement = self.body.removeprefix(f'*{self.tally} = ').removesuffix(';')
         self.core, arguments = called(statement, self.name)
-        if arguments != [f'*{self.tally}', self.slice, *self.names]:
+        if not self.tally_is_lent or arguments != [f'*{self.tally}', self.slice, *self.names]:
             raise Unread(f'`{self.name}` is no thin sweep')
         # What it says, as `Says.antt` has it: `sweep_rows` is `RowsSay`.
         self.says = self.name.removeprefix('sweep_').capitalize() + 'Say'
@@ -92,6 +92,8 @@ class Owner(Function):
 
     def __init__(self, function):
         self.__dict__.update(function.__dict__)
+        if self.tally_is_lent:
+            raise Unread(f'`{self.name}` is lent the tally that it should own')
         first, *statements, last = [statement.strip() for statement in self.body.split(';')]
         self.calls = []
         for statement in statements:

@@ -72,7 +72,8 @@ class Number:
         """The step that has what the parameter owns, for nothing."""
         if self.is_bool:
             return f'owned ! bool (Is bool) (bool-makes 𝓤 H A W) ({term}) _ refl $ fjoin ! $'
-        return f'owned ! {self.rust} (Is {self.rust}) (uint-makes 𝓤 H A W {self.width}) ({term}) _ (refl, {fit}) $ fjoin ! $'
+        makes = f'{self.rust} (Is {self.rust}) (uint-makes 𝓤 H A W {self.width})'
+        return f'owned ! {makes} ({term}) _ (refl, {fit}) $ fjoin ! $'
 
 
 class Numbers:
@@ -97,7 +98,8 @@ class Numbers:
         """What the templates take from the numbers."""
         fits = [self.all[i].fits(self.term(i)) for i in self.sized]
         values = [number.value(self.term(i)) for i, number in enumerate(self.all)]
-        owned = [number.owned(self.term(i), '' if number.is_bool else self.fit(i, 'f')) for i, number in enumerate(self.all)]
+        fit = [self.fit(i, 'f') if i in self.sized else '' for i in range(len(self.all))]
+        owned = [number.owned(self.term(i), fit[i]) for i, number in enumerate(self.all)]
         # Places of the tally and of the slice come first among all parameters.
         known = [f'are{part(2 + i)} .1' for i in self.sized]
         return dict(
@@ -112,7 +114,6 @@ class Numbers:
             spelt=[number.values for number in self.all],
             told=[number.tells for number in self.all],
             known=paired(known[:-1], known[-1]),
-            units=['Unit {0}'] * len(self.all),
             none=['tt'] * len(self.all),
             builtins=', '.join(sorted({'u8', *(number.rust for number in self.all)})),
             widths=', '.join(sorted({number.width for number in self.all if number.width})),

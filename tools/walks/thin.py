@@ -5,8 +5,8 @@ from walk import HERE, SHOWN, Walk, typed
 
 
 def locals_of(count):
-    """Where the MIR has what the sweep takes and makes: _0 is the result, _1 the reference to the tally, _2 the slice, then
-    the numbers; behind them what the core answers, the tally that it gets, a pointer, and the slice that it gets."""
+    """Where the MIR has what the sweep takes and makes: _0 is the result, _1 the reference to the tally, _2 the slice,
+    then the numbers; behind them what the core answers, the tally that it gets, a pointer, the slice that it gets."""
     return [f'_{i}' for i in range(3, 3 + count)], [f'_{i}' for i in range(3 + count, 7 + count)]
 
 
@@ -26,7 +26,8 @@ def walk(numbers):
     known = [numbers.typed(i) for i in range(len(numbers.all))]
     w.passes(['(tt, tt)', '(tt, (tt, (record { fits = room-ws .0 }, tt)))', *known])
     open_tally(w)
-    w.assign(f'of-opd ! (load ! (from ! (hop ! {w.look("_1")} (stop !))) (look-raw ! {w.at("cell")} refl))', copied, typed('h', 'was'))
+    record = f'load ! (from ! (hop ! {w.look("_1")} (stop !))) (look-raw ! {w.at("cell")} refl)'
+    w.assign(f'of-opd ! ({record})', copied, typed('h', 'was'))
     w.reborrow('_2', pointer, slice_, 'room-ws')
     call_core(w, [copied, slice_, *given], len(numbers.all))
     close_tally(w, answer)
@@ -36,6 +37,7 @@ def walk(numbers):
 
 
 def open_tally(w):
+    """Opens the borrow of the tally: its record is in memory."""
     w.front('obs', 'bor', 'tok0')
     w.text('opens ! tt T.the-row {h = h} b o (λ us.')
     w.replace(3, 'cell', 'own', 'obor', 'obs', 'auth')
@@ -48,7 +50,7 @@ def open_tally(w):
 
 
 def call_core(w, operands, count):
-    """Calls the core, and takes apart what it leaves: a tally r, that the contract holds, the slice at its last list."""
+    """Calls the core and takes apart what it leaves: a tally r, that the contract holds, the slice at its last list."""
     w.comment('the call')
     w.front('toks', 'ws')
     w.group(2, 'use1 W (raw (Core 𝓤 H A .pre (to-core _))) (goes-core _ was)')
@@ -64,7 +66,8 @@ def call_core(w, operands, count):
     w.line()
     lasts = product(['Unit {0}', 'List ℕ'] + ['Unit {0}'] * count)
     claim = 'Says h (ws .now) x r (ls .1 .0)'
-    w.step(f'use1 W (some (λ (ls : {lasts}). ‵ (lasts core.ended (κ₁, tt) coreA ls) ⊛ raw (fact 𝓤 ({claim})))) (id⊢ 𝓤 _)')
+    last = '‵ (lasts core.ended (κ₁, tt) coreA ls)'
+    w.step(f'use1 W (some (λ (ls : {lasts}). {last} ⊛ raw (fact 𝓤 ({claim})))) (id⊢ 𝓤 _)')
     w.text('pick ! (λ ls.')
     w.split('lasts', 'fact')
     w.front('fact')
@@ -86,6 +89,7 @@ def call_core(w, operands, count):
 
 
 def close_tally(w, answer):
+    """Stores what the core answered, and closes the borrow at it."""
     w.text(f'peeks ! {SHOWN} r (w ∷ []) (λ is.')
     w.step(f'land ! {HERE} (init ! {w.at(answer)} refl {typed("r", "is")})')
     place = f'(from ! (hop ! {w.look("_1")} (stop !)))'
@@ -116,8 +120,9 @@ def mir(numbers):
         'assign (place 0 []) (rvOpd opdUnit)',
     ]
     body = '\n      ('.join(f'seq ({step})' for step in steps) + '\n      return' + ')' * (len(steps) - 1)
-    wrapped = (f'({kind})' if ' ' in kind else kind for kind in types)
-    return dict(parameters=2 + count, locals=listed(f'local {kind} valueLocal' for kind in wrapped), body=f'      {body}')
+    kinds = (f'({kind})' if ' ' in kind else kind for kind in types)
+    made = listed(f'local {kind} valueLocal' for kind in kinds)
+    return dict(parameters=2 + count, locals=made, body=f'      {body}')
 
 
 def thin_file(code, paths, header):
@@ -125,11 +130,12 @@ def thin_file(code, paths, header):
     texts = numbers.texts()
     none = [f'goes-none 𝓤 H A W 2 (λ _. {number.rust}) yes (λ κs y g. refl)' for number in numbers.all]
     whole = 'tt (plain (λ _. T.the-row))'
+    told = ['mut-tells (named 0) (κs .0) T.the-row', 'mut-slice-tells (named 1) (κs .1 .0) u8']
     texts.update(
         stays=paired([f'stay-ref (0 ∷ []) {whole}', 'gave-slice (1 ∷ []) tt (plain (λ _. u8))', *texts['stay']]),
         goes=paired([f'goes-ref 𝓤 H A W 2 0 {whole}', 'goes-gave-slice 𝓤 H A W 2 1 tt (plain (λ _. u8))', *none]),
         spelt=paired(['ptr-vals', 'slice-vals', *texts['spelt']]),
-        told=paired(['mut-tells (named 0) (κs .0) T.the-row', 'mut-slice-tells (named 1) (κs .1 .0) u8', *texts['told']]),
+        told=paired([*told, *texts['told']]),
         lasts=paired(['r', 'zs-ws', *texts['none']]),
         lengths=paired(['tt', 'len-ws', *texts['none']]),
         widths=', '.join(sorted({*texts['widths'].split(', '), 'w64', 'w8'})),
@@ -160,18 +166,18 @@ def says_file(code, paths, header):
 
 def sweep_file(sweep, paths, header):
     names = dict(sweep=sweep.name, core=sweep.core, says=sweep.says, dashed=dashed(sweep.name))
-    lead = header(f'`{sweep.name}` meets its contract: its MIR is that of `Thin.antt`, over `{sweep.core}`. Assumes nothing.')
+    lead = header(SWEEP.format(sweep.name, sweep.core))
     return filled('sweep.txt', header=lead, called=f'{paths["dotted"]}·{dashed(sweep.core)}', **names, **paths)
 
 
 THIN = """\
-A thin sweep, `*tally = core(*tally, ws, ..);`, for any core of this signature: one walk of its MIR, which the proof of each
-thin sweep cites. The borrow checker covers no function that takes a reference to a struct, so the kit makes no such proof.
-In order: the borrow of the tally is opened, the record is copied out, the core is called with it and with the slice at its
-own lifetime, what it returns is stored, and the borrow is closed at that record. The slice is given up for good
-(`gave-slice`). `walk` has a line or more for each statement of the MIR; its numbers are positions in the context, which the
-lines in brackets list. No line looks into the tally, the numbers or what the contracts say: `Asks` and `Says` are any
-predicates, the same of the core and of the thin function.
+A thin sweep, `*tally = core(*tally, ws, ..);`, for any core of this signature: one walk of its MIR, which the proof of
+each thin sweep cites. The borrow checker covers no function that takes a reference to a struct, so the kit has none.
+In order: the borrow of the tally is opened, the record is copied out, the core is called with it and with the slice at
+its own lifetime, what it returns is stored, and the borrow is closed at that record. The slice is given up for good
+(`gave-slice`). `walk` has a line or more for each statement of the MIR; its numbers are positions in the context, which
+the lines in brackets list. No line looks into the tally, the numbers or what the contracts say: `Asks` and `Says` are
+any predicates, the same of the core and of the thin function.
     Nums, NumsFit                   the plain parameters, and that they fit
     numVals, numOwn, has-nums       their machine values, and what they own, had for nothing
     thinClauses, coreClauses        the two contracts
@@ -179,11 +185,12 @@ predicates, the same of the core and of the thin function.
     thin-meets                      over any tables whose entry f meets the core's contract, the MIR meets the thin one
 Assumes nothing."""
 CALLED = """\
-A call of a thin sweep (`Thin.antt`), for a walk that lends a local tally to it: what the caller hands over, and what it has
-once the call has returned. At any lifetimes and shares, and at any contract of the form of `Thin.antt`.
+A call of a thin sweep (`Thin.antt`), for a walk that lends a local tally to it: what the caller hands over, and what it
+has once the call has returned. At any lifetimes and shares, and at any contract of the form of `Thin.antt`.
     Sweep         the contract
     to            what its triple binds outside
     goes          the tokens, the borrow of the tally, and the slice  ⊢  its `pre`
-    After, gives  its `post`  ⊢ ⇛ for some tally and list, `Says`: the tokens, and what says that they are the last values
+    After, gives  its `post`  ⊢ ⇛ for some tally and list, `Says`: the tokens, and that these are the last values
 Assumes `Given`."""
+SWEEP = '`{}` meets its contract: its MIR is that of `Thin.antt`, over `{}`. Assumes nothing.'
 SAYS = 'What the sweeps ask and say, over the numbers as the walks have them: {}. Assumes nothing.'

@@ -125,7 +125,8 @@ class Walk:
         second = f'look-in ! {place} (sub ! 1 refl (whole !))'
         self.assign(f'addr ! (from ! (fld ! refl (hop ! ({first}) (stop !))))', pointer, '(tt, tt)')
         length = f'and-then ! (load ! (from ! (fld ! refl (stop !))) ({second})) (no-more !)'
-        self.assign(f'agg ! (and-then ! ({self.load(pointer)}) ({length}))', to, f'(tt, (tt, (record {{ fits = {room} .0 }}, tt)))')
+        has = f'(tt, (tt, (record {{ fits = {room} .0 }}, tt)))'
+        self.assign(f'agg ! (and-then ! ({self.load(pointer)}) ({length}))', to, has)
 
     def returns(self, count):
         """Returns `_0`, and the locals die."""
