@@ -258,7 +258,7 @@ The numbers of `{}` as its walk has them, those that it gives to each sweep, and
 Assumes nothing."""
 PROOF = """\
 `{0}` meets its contract: a walk of its MIR. The borrow checker covers no function that makes a reference to a struct,
-so the kit has none. In order: the tally that it is given is put into a local; for each sweep the local is lent for a
+so the kit cannot make it. In order: the tally that it is given is put into a local; for each sweep the local is lent for a
 lifetime made for that call (`LocalTally.antt`), the slice is lent again beside it (`SliceAgain.antt`; to the last sweep
 it is given up for good), the sweep is called, and both come back; then the local is returned. `walk` has a line or more
 for each statement of the MIR; its numbers are positions in the context, which the lines in brackets list. All that it

@@ -172,7 +172,7 @@ def sweep_file(sweep, paths, header):
 
 THIN = """\
 A thin sweep, `*tally = core(*tally, ws, ..);`, for any core of this signature: one walk of its MIR, which the proof of
-each thin sweep cites. The borrow checker covers no function that takes a reference to a struct, so the kit has none.
+each thin sweep cites. The borrow checker covers no function that takes a reference to a struct, so the kit cannot make it.
 In order: the borrow of the tally is opened, the record is copied out, the core is called with it and with the slice at
 its own lifetime, what it returns is stored, and the borrow is closed at that record. The slice is given up for good
 (`gave-slice`). `walk` has a line or more for each statement of the MIR; its numbers are positions in the context, which

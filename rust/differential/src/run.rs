@@ -44,7 +44,7 @@ pub struct Subject {
     pub refuses: &'static [u32],
     /// The corners of each setting that its call has; a fixed case has to be accepted at every one.
     pub corners: &'static [&'static [Corner]],
-    /// Faults that its comparison has to report: those of its buffers and refusals, then those of each number that it gives.
+    /// Faults that its comparison has to report: of its buffers and refusals, then of each number that it gives.
     pub faults: &'static [&'static [Fault]],
     /// Cases of one round of random ones.
     pub round: u64,
