@@ -12,10 +12,13 @@ pub enum Buffer {
     Words(Guarded<u64>),
 }
 
+/// The numbers written through pointers, by name.
+pub type Outs = Vec<(&'static str, u64)>;
+
 /// What our side answered and left: the number, the numbers written through pointers, every lent buffer.
 pub struct Outcome {
     pub number: u32,
-    pub outs: Vec<u64>,
+    pub outs: Outs,
     pub lent: Vec<Buffer>,
 }
 
@@ -30,7 +33,7 @@ pub enum Left<'a> {
 
 pub struct Expected<'a> {
     pub number: u32,
-    pub outs: Vec<u64>,
+    pub outs: Outs,
     pub lent: Vec<Left<'a>>,
 }
 
@@ -63,9 +66,9 @@ pub trait Case: Clone {
     fn tell(&self) -> String;
 }
 
-/// The first difference of a case, else the expected number. A fault is planted in our side's answer where it fits,
+/// The first difference of a case, else what was expected of it. A fault is planted in our side's answer where it fits,
 /// and is then taken.
-pub fn held<C: Case>(case: &C, fault: &mut Option<Fault>) -> Result<u32, String> {
+pub fn held<'a, C: Case>(case: &'a C, fault: &mut Option<Fault>) -> Result<Expected<'a>, String> {
     let expected = case.expected()?;
     let mut outcome = case.ours();
     if fault.is_some_and(|kind| kind.plant(&mut outcome, &case.places())) {
@@ -73,15 +76,16 @@ pub fn held<C: Case>(case: &C, fault: &mut Option<Fault>) -> Result<u32, String>
     }
     compare(&expected, &outcome)?;
     case.safe(&expected)?;
-    Ok(expected.number)
+    Ok(expected)
 }
 
 fn compare(expected: &Expected<'_>, outcome: &Outcome) -> Result<(), String> {
     if expected.number != outcome.number {
         return Err(format!("answer {} where {} is expected", outcome.number, expected.number));
     }
-    if expected.outs != outcome.outs {
-        return Err(format!("numbers {:?} where {:?} are expected", outcome.outs, expected.outs));
+    assert_eq!(expected.outs.len(), outcome.outs.len(), "each number has its expectation");
+    if let Some((want, got)) = expected.outs.iter().zip(&outcome.outs).find(|(want, got)| want != got) {
+        return Err(format!("{got:?} where {want:?} is expected"));
     }
     assert_eq!(expected.lent.len(), outcome.lent.len(), "each lent buffer has its expectation");
     for (index, (left, buffer)) in expected.lent.iter().zip(&outcome.lent).enumerate() {

@@ -3,7 +3,7 @@
 use crate::case::{Buffer, Outcome, Places};
 use Fault::*;
 
-#[derive(Clone, Copy, Debug)]
+#[derive(Clone, Copy, Debug, PartialEq, Eq)]
 pub enum Fault {
     /// One written byte of an accepted call.
     Byte,
@@ -11,16 +11,16 @@ pub enum Fault {
     Beside,
     /// One byte of a buffer that an accepted call only reads.
     Source,
-    /// One number that an accepted call gives.
-    Count,
+    /// The number of this name that an accepted call gives.
+    Count(&'static str),
     /// The number of a refusal, changed to another one.
     Refusal,
     /// A refused call that answers as if it were accepted.
     Accepted,
     /// An accepted call that answers as if it were refused.
     Refused,
-    /// A number written by a refused call.
-    SpoiltCount,
+    /// The number of this name, written by a refused call.
+    SpoiltCount(&'static str),
     /// A lent buffer written by a refused call.
     SpoiltBuffer(usize),
     /// One byte or number past the end of a lent buffer.
@@ -29,12 +29,10 @@ pub enum Fault {
 
 /// Faults of a call that answers a number and is lent nothing.
 pub const ANSWERING: &[Fault] = &[Refusal, Accepted, Refused];
-/// Faults of a call that reads one lent buffer and gives a number.
-pub const ASKING: &[Fault] = &[Source, Count, Refusal, Accepted, Refused, SpoiltCount, SpoiltBuffer(0), Past(0)];
-/// Two of a number that is given, seven of every call that writes, then two of each buffer written.
+/// Faults of a call that reads one lent buffer.
+pub const ASKING: &[Fault] = &[Source, Refusal, Accepted, Refused, SpoiltBuffer(0), Past(0)];
+/// Seven of every call that writes, then two of each buffer written.
 const WRITING: &[Fault] = &[
-    Count,
-    SpoiltCount,
     Byte,
     Beside,
     Source,
@@ -52,13 +50,22 @@ const WRITING: &[Fault] = &[
 
 /// Faults of a call that reads its first lent buffer and writes so many more, up to three.
 pub const fn writing(buffers: usize) -> &'static [Fault] {
-    counting(buffers).split_at(2).1
+    WRITING.split_at(7 + 2 * buffers).0
 }
 
-/// Likewise of one that gives a number too.
-pub const fn counting(buffers: usize) -> &'static [Fault] {
-    WRITING.split_at(9 + 2 * buffers).0
-}
+// Faults of the numbers that a call gives, each by itself.
+/// The byte, or the yes or no, of a call that asks.
+pub const VALUE: &[Fault] = &[Count("value"), SpoiltCount("value")];
+pub const COMPARISONS: &[Fault] = &[Count("comparisons"), SpoiltCount("comparisons")];
+pub const TILES: &[Fault] = &[Count("tiles_x"), SpoiltCount("tiles_x"), Count("tiles_y"), SpoiltCount("tiles_y")];
+pub const JUDGED: &[Fault] = &[
+    Count("dark"),
+    SpoiltCount("dark"),
+    Count("light"),
+    SpoiltCount("light"),
+    Count("skipped"),
+    SpoiltCount("skipped"),
+];
 
 impl Fault {
     /// Changes the outcome if the fault fits this case.
@@ -68,11 +75,11 @@ impl Fault {
             Self::Byte => accepted && flip(outcome, places.written),
             Self::Beside => accepted && flip(outcome, places.beside),
             Self::Source => accepted && flip(outcome, places.source),
-            Self::Count => accepted && flip_count(outcome),
+            Self::Count(name) => accepted && flip_count(outcome, name),
             Self::Refusal => !accepted && replace(outcome, outcome.number % 10 + 1),
             Self::Accepted => !accepted && replace(outcome, 0),
             Self::Refused => accepted && replace(outcome, 8),
-            Self::SpoiltCount => !accepted && flip_count(outcome),
+            Self::SpoiltCount(name) => !accepted && flip_count(outcome, name),
             Self::SpoiltBuffer(buffer) => !accepted && flip(outcome, Some((buffer, 0))),
             Self::Past(buffer) => flip_past(outcome, buffer),
         }
@@ -100,8 +107,8 @@ fn flip_past(outcome: &mut Outcome, buffer: usize) -> bool {
     true
 }
 
-fn flip_count(outcome: &mut Outcome) -> bool {
-    let Some(count) = outcome.outs.last_mut() else {
+fn flip_count(outcome: &mut Outcome, name: &str) -> bool {
+    let Some((_, count)) = outcome.outs.iter_mut().find(|out| out.0 == name) else {
         return false;
     };
     *count ^= 1;

@@ -1,4 +1,4 @@
-//! The tile grid: building it, and questions to it.
+//! The tile grid: building it, and queries to it.
 
 use crate::corner::{NEIGHBORHOOD, OFFSET, PICTURE, TILE};
 use crate::fault;
@@ -18,7 +18,7 @@ const fn query(
         name,
         refuses: &[7, 9, 10],
         corners: &[PICTURE, TILE],
-        faults: fault::ASKING,
+        faults: &[fault::ASKING, fault::VALUE],
         round: 60_000,
         random,
         fixed,
@@ -30,7 +30,7 @@ pub const SUBJECTS: &[Subject] = &[
         name: "tile_grid_build",
         refuses: &[1, 2, 3, 4, 7, 8, 10],
         corners: &[PICTURE, TILE, NEIGHBORHOOD, OFFSET],
-        faults: fault::counting(3),
+        faults: &[fault::writing(3), fault::TILES],
         round: 60_000,
         random: make::random,
         fixed: make::fixed,

@@ -149,7 +149,7 @@ pub const SUBJECTS: &[Subject] = &[Subject {
     name: "background_divide_into",
     refuses: &[1, 2, 3, 4, 5, 7, 8],
     corners: &[corner::PICTURE, corner::ELEMENT],
-    faults: fault::counting(2),
+    faults: &[fault::writing(2), fault::COMPARISONS],
     round: 40_000,
     random,
     fixed,

@@ -2,7 +2,7 @@
 
 use crate::corner;
 use crate::fault::Fault::{self, Accepted, Beside, Byte, Past, Refusal, Refused, SpoiltBuffer};
-use crate::fault::{writing, ANSWERING, ASKING};
+use crate::fault::{writing, ANSWERING, ASKING, VALUE};
 use crate::rng::Rng;
 use crate::run::{no_fixed, Checked, Plan, Run, Subject};
 
@@ -14,20 +14,20 @@ const SET_FAULTS: &[Fault] = &[Byte, Beside, Refusal, Accepted, Refused, SpoiltB
 
 /// A call that has no settings besides a layout.
 const fn subject(
-    name: &'static str, refuses: &'static [u32], faults: &'static [Fault], round: u64,
+    name: &'static str, refuses: &'static [u32], faults: &'static [&'static [Fault]], round: u64,
     random: fn(&mut Run, &mut Rng) -> Checked, fixed: fn(&mut Run, &Plan) -> Checked,
 ) -> Subject {
     Subject { name, refuses, corners: &[corner::PICTURE], faults, round, random, fixed }
 }
 
 pub const SUBJECTS: &[Subject] = &[
-    subject(layout::NAME, &[1, 2, 3, 4], ANSWERING, 300_000, layout::random, layout::fixed),
+    subject(layout::NAME, &[1, 2, 3, 4], &[ANSWERING], 300_000, layout::random, layout::fixed),
     // The fixed cases of the line above have such lengths too.
-    subject(layout::LONG, &[1, 2, 3, 4], ANSWERING, 100_000, layout::random_long, no_fixed),
+    subject(layout::LONG, &[1, 2, 3, 4], &[ANSWERING], 100_000, layout::random_long, no_fixed),
     subject(
         "get",
         &[1, 2, 3, 4, 9],
-        ASKING,
+        &[ASKING, VALUE],
         150_000,
         |run, rng| pixels::random(run, rng, pixels::Call::Get),
         |run, plan| pixels::fixed(run, plan, pixels::Call::Get),
@@ -35,7 +35,7 @@ pub const SUBJECTS: &[Subject] = &[
     subject(
         "set",
         &[1, 2, 3, 4, 9],
-        SET_FAULTS,
+        &[SET_FAULTS],
         150_000,
         |run, rng| pixels::random(run, rng, pixels::Call::Set),
         |run, plan| pixels::fixed(run, plan, pixels::Call::Set),
@@ -43,7 +43,7 @@ pub const SUBJECTS: &[Subject] = &[
     subject(
         "row",
         &[1, 2, 3, 4, 8, 9],
-        writing(1),
+        &[writing(1)],
         150_000,
         |run, rng| pixels::random(run, rng, pixels::Call::Row),
         |run, plan| pixels::fixed(run, plan, pixels::Call::Row),
@@ -51,7 +51,7 @@ pub const SUBJECTS: &[Subject] = &[
     subject(
         "pack",
         &[1, 2, 3, 4, 8],
-        writing(1),
+        &[writing(1)],
         100_000,
         |run, rng| planes::random(run, rng, true),
         |run, plan| planes::fixed(run, plan, true),
@@ -59,7 +59,7 @@ pub const SUBJECTS: &[Subject] = &[
     subject(
         "unpack",
         &[1, 2, 3, 4, 8],
-        writing(1),
+        &[writing(1)],
         100_000,
         |run, rng| planes::random(run, rng, false),
         |run, plan| planes::fixed(run, plan, false),

@@ -8,6 +8,7 @@ mod fault;
 mod guard;
 mod layouts;
 mod levels;
+mod patterns;
 mod plain;
 mod rng;
 mod run;
@@ -15,6 +16,7 @@ mod rust;
 mod through;
 
 use corner::Corner;
+use fault::Fault;
 use rng::Rng;
 use run::{Difference, Plan, Run, Subject};
 use std::process::ExitCode;
@@ -131,7 +133,15 @@ fn compared(plan: &Plan, seed: u64, rounds: Rounds) -> Result<(), String> {
             return Err(format!("{} has no case of number {number}", subject.name));
         }
     }
-    Ok(())
+    unplanted(&run).map_or(Ok(()), Err)
+}
+
+/// A number that a subject gives and in which the self-test plants no fault.
+fn unplanted(run: &Run) -> Option<String> {
+    let planted: Vec<_> = subjects().flat_map(|s| s.faults().map(move |fault| (s.name, fault))).collect();
+    let (name, number) =
+        run.numbers.iter().find(|&&(name, number)| !planted.contains(&(name, Fault::Count(number))))?;
+    Some(format!("{name} gives {number}, in which no fault is planted"))
 }
 
 /// A stream of its own for each subject and round, so that adding a subject moves no other one's cases.
@@ -181,7 +191,7 @@ fn self_test() -> Result<(), String> {
     let corners = missed_corners()?;
     let mut seen = 0;
     for subject in subjects() {
-        for &fault in subject.faults {
+        for fault in subject.faults() {
             let mut run = Run { fault: Some(fault), ..Run::default() };
             let mut rng = Rng::new(SEED);
             let mut reported = false;

@@ -168,7 +168,7 @@ const fn subject(
         name,
         refuses: &[1, 2, 3, 4, 5, 6, 8],
         corners: &[corner::PICTURE, corner::KERNEL],
-        faults: fault::counting(2),
+        faults: const { &[fault::writing(2), fault::COMPARISONS] },
         round: 40_000,
         random,
         fixed,

@@ -12,7 +12,7 @@ pub const SUBJECTS: &[Subject] = &[Subject {
     name: "reading",
     refuses: &[1, 2, 3, 4, 5, 6, 7, 8],
     corners: &[PICTURE, ELEMENT, KERNEL, TILE, NEIGHBORHOOD, RADIUS, OFFSET],
-    faults: fault::counting(3),
+    faults: &[fault::writing(3), fault::JUDGED, fault::COMPARISONS],
     round: 30_000,
     random: make::random,
     fixed: make::fixed,

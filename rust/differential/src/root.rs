@@ -1,7 +1,9 @@
-//! The square root of an f64, bit by bit against the processor's.
+//! The square root of an f64, bit by bit against the processor's. A NaN is compared as a NaN: IEEE 754 leaves its sign
+//! and its payload open.
 
 use crate::case::{Case, Expected, Outcome, Places};
 use crate::fault::Fault::Count;
+use crate::patterns;
 use crate::rng::Rng;
 use crate::run::{Checked, Plan, Run, Subject};
 use imgproc::root::root;
@@ -9,17 +11,29 @@ use imgproc::root::root;
 #[derive(Clone)]
 struct Root(f64);
 
+/// What stands for every NaN.
+const NAN: u64 = 0x7ff8_0000_0000_0000;
+
+/// The bits of a root.
+fn bits(root: f64) -> u64 {
+    if root.is_nan() {
+        NAN
+    } else {
+        root.to_bits()
+    }
+}
+
 impl Case for Root {
     fn name(&self) -> &'static str {
         "root"
     }
 
     fn ours(&self) -> Outcome {
-        Outcome { number: 0, outs: vec![root(self.0).to_bits()], lent: vec![] }
+        Outcome { number: 0, outs: vec![("root", bits(root(self.0)))], lent: vec![] }
     }
 
     fn expected(&self) -> Result<Expected<'_>, String> {
-        Ok(Expected { number: 0, outs: vec![self.0.sqrt().to_bits()], lent: vec![] })
+        Ok(Expected { number: 0, outs: vec![("root", bits(self.0.sqrt()))], lent: vec![] })
     }
 
     fn safe(&self, _: &Expected<'_>) -> Result<(), String> {
@@ -31,7 +45,7 @@ impl Case for Root {
     }
 
     fn smaller(&self) -> Vec<Self> {
-        [self.0.floor(), (self.0 / 4.0).floor()].into_iter().filter(|&x| x < self.0).map(Self).collect()
+        [self.0.trunc(), (self.0 / 4.0).trunc()].into_iter().filter(|x| x.abs() < self.0.abs()).map(Self).collect()
     }
 
     fn tell(&self) -> String {
@@ -39,29 +53,25 @@ impl Case for Root {
     }
 }
 
-/// A finite number that is not below zero.
+/// Any pattern, then numbers above zero of which the root is more than a rounding.
 fn operand(rng: &mut Rng) -> f64 {
-    let x = match rng.below(6) {
-        0 => f64::from_bits(rng.next() >> 1),
+    match rng.below(7) {
+        0 => patterns::any(rng),
+        1 => f64::from_bits(rng.next() >> 1),
         // Subnormal.
-        1 => f64::from_bits(rng.next() >> (12 + rng.below(52))),
-        2 => (rng.next() >> rng.below(64)) as f64,
+        2 => f64::from_bits(rng.next() >> (12 + rng.below(52))),
+        3 => (rng.next() >> rng.below(64)) as f64,
         // Around a square.
-        3 => {
+        4 => {
             let side = f64::from_bits(0x3ff0_0000_0000_0000 | rng.next() >> 12);
             f64::from_bits((side * side).to_bits() + rng.below(3) as u64 - 1)
         }
-        4 => {
+        5 => {
             let side = (rng.next() >> (38 + rng.below(26))) as f64;
             side * side
         }
         // What a variance looks like.
         _ => (rng.next() >> 40) as f64 / rng.within(1, 70_000) as f64,
-    };
-    if x.is_finite() {
-        x
-    } else {
-        f64::MAX
     }
 }
 
@@ -70,9 +80,10 @@ fn random(run: &mut Run, rng: &mut Rng) -> Checked {
 }
 
 fn fixed(run: &mut Run, _: &Plan) -> Checked {
-    for exponent in 0..2047u64 {
+    // Both zeros, infinities and NaNs of both signs among them: the exponent takes every value, the sign both.
+    for sign_and_exponent in 0..4096u64 {
         for fraction in [0, 1, 2, (1 << 51) - 1, 1 << 51, (1 << 51) + 1, (1 << 52) - 2, (1 << 52) - 1] {
-            run.case(&Root(f64::from_bits(exponent << 52 | fraction)))?;
+            run.case(&Root(f64::from_bits(sign_and_exponent << 52 | fraction)))?;
         }
     }
     for whole in 0..=65_025u32 {
@@ -82,4 +93,4 @@ fn fixed(run: &mut Run, _: &Plan) -> Checked {
 }
 
 pub const SUBJECTS: &[Subject] =
-    &[Subject { name: "root", refuses: &[], corners: &[], faults: &[Count], round: 1_000_000, random, fixed }];
+    &[Subject { name: "root", refuses: &[], corners: &[], faults: &[&[Count("root")]], round: 1_000_000, random, fixed }];

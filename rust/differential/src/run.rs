@@ -1,10 +1,10 @@
 //! Runs cases, counts them by subject and by corner, and stops at the first difference.
 
-use crate::case::{held, smallest, Case};
+use crate::case::{held, smallest, Case, Expected};
 use crate::corner::Corner;
 use crate::fault::Fault;
 use crate::rng::Rng;
-use std::collections::BTreeMap;
+use std::collections::{BTreeMap, BTreeSet};
 
 /// A difference, told with the smallest input found.
 pub struct Difference(pub String);
@@ -44,8 +44,8 @@ pub struct Subject {
     pub refuses: &'static [u32],
     /// The corners of each setting that its call has; a fixed case has to be accepted at every one.
     pub corners: &'static [&'static [Corner]],
-    /// Faults that its comparison has to report.
-    pub faults: &'static [Fault],
+    /// Faults that its comparison has to report: of its buffers and refusals, then of each number that it gives.
+    pub faults: &'static [&'static [Fault]],
     /// Cases of one round of random ones.
     pub round: u64,
     pub random: fn(&mut Run, &mut Rng) -> Checked,
@@ -56,6 +56,10 @@ pub struct Subject {
 impl Subject {
     pub fn corners(&self) -> impl Iterator<Item = Corner> {
         self.corners.iter().copied().flatten().copied()
+    }
+
+    pub fn faults(&self) -> impl Iterator<Item = Fault> {
+        self.faults.iter().copied().flatten().copied()
     }
 }
 
@@ -71,6 +75,8 @@ pub struct Run {
     pub counts: BTreeMap<&'static str, Count>,
     /// Accepted cases by subject and corner.
     pub corners: BTreeMap<(&'static str, Corner), u64>,
+    /// The numbers that calls gave, by subject.
+    pub numbers: BTreeSet<(&'static str, &'static str)>,
     /// The fault to plant at the first case that it fits.
     pub fault: Option<Fault>,
 }
@@ -79,8 +85,8 @@ impl Run {
     pub fn case<C: Case>(&mut self, case: &C) -> Checked {
         let pending = self.fault.is_some();
         match held(case, &mut self.fault) {
-            Ok(number) => {
-                self.count(case, number);
+            Ok(expected) => {
+                self.count(case, &expected);
                 Ok(())
             }
             Err(what) if pending && self.fault.is_none() => Err(Difference(what)),
@@ -91,9 +97,10 @@ impl Run {
         }
     }
 
-    fn count<C: Case>(&mut self, case: &C, number: u32) {
-        *self.counts.entry(case.name()).or_default().entry(number).or_default() += 1;
-        if number == 0 {
+    fn count<C: Case>(&mut self, case: &C, expected: &Expected<'_>) {
+        *self.counts.entry(case.name()).or_default().entry(expected.number).or_default() += 1;
+        self.numbers.extend(expected.outs.iter().map(|out| (case.name(), out.0)));
+        if expected.number == 0 {
             for corner in case.corners() {
                 *self.corners.entry((case.name(), corner)).or_default() += 1;
             }

@@ -173,7 +173,7 @@ pub const SUBJECTS: &[Subject] = &[Subject {
     name: "sauvola_into",
     refuses: &[1, 2, 3, 4, 5, 7, 8],
     corners: &[corner::PICTURE, corner::RADIUS],
-    faults: fault::writing(2),
+    faults: &[fault::writing(2)],
     round: 60_000,
     random,
     fixed,

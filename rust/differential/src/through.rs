@@ -121,7 +121,7 @@ impl<O: Operator> Case for Through<O> {
         let number = self.op.flat(&src, self.s, &mut dst, self.d, &mut workspace, &mut comparisons);
         Outcome {
             number,
-            outs: if O::COUNTS { vec![comparisons] } else { vec![] },
+            outs: if O::COUNTS { vec![("comparisons", comparisons)] } else { vec![] },
             lent: vec![Buffer::Bytes(src), Buffer::Bytes(dst), O::buffer(workspace)],
         }
     }
@@ -135,7 +135,7 @@ impl<O: Operator> Case for Through<O> {
             }
             Err(number) => (number, self.noise_number(), Cow::Borrowed(self.dst.as_slice()), Left::Noise(self.seed)),
         };
-        let outs = if O::COUNTS { vec![out] } else { vec![] };
+        let outs = if O::COUNTS { vec![("comparisons", out)] } else { vec![] };
         Ok(Expected { number, outs, lent: vec![src, Left::Bytes(dst), workspace] })
     }
 
@@ -147,7 +147,7 @@ impl<O: Operator> Case for Through<O> {
         let mut workspace = O::Word::noise(self.room, self.seed);
         let answer = self.op.safe(&self.src, self.s, &mut dst, self.d, &mut workspace);
         let want = match Refusal::from_number(expected.number) {
-            None => Ok(expected.outs.first().copied().unwrap_or(0)),
+            None => Ok(expected.outs.first().map_or(0, |out| out.1)),
             Some(refusal) => Err(refusal),
         };
         let painted = matches!(&expected.lent[1], Left::Bytes(bytes) if bytes.as_ref() == dst.as_slice());

@@ -1,4 +1,4 @@
-//! Copies the published operators for lib.rs to include, and drops the module lines of the files that are not copied.
+//! Copies the published operators for lib.rs to include, and drops the modules that are not copied.
 
 include!("../source.rs");
 
@@ -6,17 +6,26 @@ const MODULES: [&str; 5] = ["illumination", "internal", "morphology", "neon", "t
 
 fn main() {
     let folder = source("qr-lab-imgproc");
-    let text: String = without_crate_lines(&read(&folder.join("lib.rs")))
-        .lines()
-        .filter(|line| match line.strip_prefix("pub mod ").and_then(|rest| rest.strip_suffix(';')) {
-            Some(module) => MODULES.contains(&module),
-            None => true,
-        })
-        .map(|line| format!("{line}\n"))
-        .collect();
-    write("lib.rs", &text);
+    write("lib.rs", &without_other_modules(&without_crate_lines(&read(&folder.join("lib.rs")))));
     for module in MODULES {
         let name = format!("{module}.rs");
         write(&name, &read(&folder.join(&name)));
     }
+}
+
+/// Leaves out the line of each other module, with the documentation and the attributes before it.
+fn without_other_modules(text: &str) -> String {
+    let (mut kept, mut before) = (String::new(), String::new());
+    for line in text.lines() {
+        before += &format!("{line}\n");
+        if line.starts_with("///") || line.starts_with("#[") {
+            continue;
+        }
+        let module = line.strip_prefix("pub mod ").and_then(|rest| rest.strip_suffix(';'));
+        if module.is_none_or(|module| MODULES.contains(&module)) {
+            kept += &before;
+        }
+        before.clear();
+    }
+    kept + &before
 }

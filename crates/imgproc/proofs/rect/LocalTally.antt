@@ -1,4 +1,5 @@
--- A `Tally` in a local is lent as a `&κ mut Tally`, and comes back at its last value: `Denote/Lend.antt`'s `lends-ref` and `ref-back`, with the local's memory taken to what a reference lends and back. By hand, as the walks that cite it.
+-- A `Tally` in a local is lent as a `&κ mut Tally`, and comes back at its last value: `lends-ref` and `ref-back` of `Denote/Lend.antt`, with the
+-- local's memory taken to what a reference lends and back. By hand; the generated walks cite it.
 --     cell          the local's memory, at the record's machine value
 --     local-lends   cell h  ⊢ ⇛ ∃ γ. own (the `&κ mut Tally` ((b, 0), γ, h)) ∗ the lender's part
 --     local-back    [†κ] ∗ the lender's part ∗ res γ r  ⊢ ⇛ (⌜the fields of r fit⌝ ∧ cell r)
@@ -13,7 +14,8 @@ use base.Logic.{ent, sep, ex, guard}
 use base.Fml.{Lft, GName, Fml, fsep, fat, fdead, fres, flent}
 use prog.Wp.{Heap}
 use ghost.Atoms.{Atoms, sem}
-use types.Kit.{Given, ‵, _⊛_, some, later, _$_, _∵_, !, qed, move, drop, use1, use3, fsplit, fjoin, fpick, fpack, await, updating, now as at-once, check, done}
+use types.Kit.{Given, ‵, _⊛_, some, later, _$_, _∵_, !, qed, move, drop, use1, use3, fsplit, fjoin, fpick, fpack, await, updating, now as at-once, check}
+use types.Kit.{done}
 use types.SemTy.{Body}
 use denote.Laws.{Is, shows}
 use denote.Memory.{mem, cellAt, partOf}
@@ -43,16 +45,23 @@ module _ {M : Type 1} (𝓤 : URA M) (H : Heap 𝓤) (A : Atoms 𝓤) (W : Given
   abbrev pub Held : GName → Fml
   Held γ = flent κ (Body (mem T.the-row) b 0 γ)
 
-  pub local-lends : (ℓ : Lifetime) (h : Tally) → Fits h → ent 𝓤 (sem 𝓤 H A (cell b h)) (H .⇛ (ex 𝓤 (λ (γ : GName). sep 𝓤 (sem 𝓤 H A (Ref ℓ γ h)) (sem 𝓤 H A (Held γ)))))
+  pub local-lends : (ℓ : Lifetime) (h : Tally) → Fits h →
+      ent 𝓤 (sem 𝓤 H A (cell b h)) (H .⇛ (ex 𝓤 (λ (γ : GName). sep 𝓤 (sem 𝓤 H A (Ref ℓ γ h)) (sem 𝓤 H A (Held γ)))))
   unfolding partOf
   local-lends ℓ h is =
-      qed W (‵ (cell b h) ∷ []) ∵ updating ! $ use1 W (‵ (cellAt fullShare (T.the-row .mir) (val h ∷ []) b 0)) (W .laws .at-raw fullShare T′.mir b 0 (val h)) $
-      owned ! T.the-row (Is T.the-row) ((LL.makes T.the-type T′.the-plain) 𝓤 H A) h _ is $ move ! (1 ∷ 0 ∷ []) $ fjoin ! $ fpack ! (List Val) (λ us. fsep (cellAt fullShare (T.the-row .mir) us b 0) (T.the-row .own h us)) (val h ∷ []) $
+      qed W (‵ (cell b h) ∷ []) ∵ updating ! $ use1 W (‵ (cellAt fullShare (T.the-row .mir) (val h ∷ []) b 0))
+      (W .laws .at-raw fullShare T′.mir b 0 (val h)) $
+      owned ! T.the-row (Is T.the-row) ((LL.makes T.the-type T′.the-plain) 𝓤 H A) h _ is $ move ! (1 ∷ 0 ∷ []) $ fjoin ! $
+      fpack ! (List Val) (λ us. fsep (cellAt fullShare (T.the-row .mir) us b 0) (T.the-row .own h us)) (val h ∷ []) $
       use1 W (later (some (λ (γ : GName). ‵ (Ref ℓ γ h) ⊛ ‵ (Held γ)))) (lends-ref 𝓤 H A W T.the-row ℓ κ h b 0) $ await ! tt $ at-once ! $ done !
 
-  pub local-back : (γ : GName) (r : Tally) → ent 𝓤 (sep 𝓤 (A .dead κ) (sep 𝓤 (sem 𝓤 H A (Held γ)) (A .res γ (T.the-row .coded .code r)))) (H .⇛ (guard 𝓤 (Fits r) (sem 𝓤 H A (cell b r))))
+  pub local-back : (γ : GName) (r : Tally) → ent 𝓤 (sep 𝓤 (A .dead κ) (sep 𝓤 (sem 𝓤 H A (Held γ)) (A .res γ (T.the-row .coded .code r))))
+      (H .⇛ (guard 𝓤 (Fits r) (sem 𝓤 H A (cell b r))))
   unfolding partOf
   local-back γ r =
-      qed W (‵ (fdead κ) ∷ ‵ (Held γ) ∷ ‵ (fres γ (T.the-row .coded .code r)) ∷ []) ∵ updating ! $ use3 W (later (‵ (mem T.the-row .lies r b 0))) (ref-back 𝓤 H A W T.the-row κ γ r b 0) $ await ! tt $
-      fpick ! (λ us. fsplit ! $ spelt ! T.the-row (Is T.the-row) (shows 𝓤 H A T.the-row) (LL.vals T.the-type T′.the-laws) (LL.tells T.the-type T′.the-laws) fullShare r us b 0 $
-      move ! (1 ∷ []) $ peeks ! T.the-row (Is T.the-row) (shows 𝓤 H A T.the-row) r (val r ∷ []) (λ is. drop ! $ use1 W (‵ (cell b r)) (W .laws .raw-at fullShare T′.mir b 0 (val r)) $ at-once ! $ check ! is $ done !))
+      qed W (‵ (fdead κ) ∷ ‵ (Held γ) ∷ ‵ (fres γ (T.the-row .coded .code r)) ∷ []) ∵ updating ! $
+      use3 W (later (‵ (mem T.the-row .lies r b 0))) (ref-back 𝓤 H A W T.the-row κ γ r b 0) $ await ! tt $
+      fpick ! (λ us. fsplit ! $ spelt ! T.the-row (Is T.the-row) (shows 𝓤 H A T.the-row) (LL.vals T.the-type T′.the-laws) (LL.tells T.the-type T′.the-laws)
+      fullShare r us b 0 $
+      move ! (1 ∷ []) $ peeks ! T.the-row (Is T.the-row) (shows 𝓤 H A T.the-row) r (val r ∷ [])
+      (λ is. drop ! $ use1 W (‵ (cell b r)) (W .laws .raw-at fullShare T′.mir b 0 (val r)) $ at-once ! $ check ! is $ done !))

@@ -1,56 +1,27 @@
--- What `morph_rect_twice` asks and does, over its numbers as the walk has them, and the plain facts that its walk needs. Assumes nothing.
+-- The plain facts that the walk of `morph_rect_twice` needs, by hand: each sweep leaves what the next one asks, and the last what the contract says.
+-- Assumes nothing.
 use mathlib.Core.Path.{_≡_}
 use mathlib.Core.Bool.{Bool}
-use Prim.Native.Nat.{ℕ, _<_, _^_}
+use Prim.Native.Nat.{ℕ}
 use mathlib.Core.List.{List}
 use lib.ListN.{length}
 use denote.Builtin.{u8}
 use denote.Slice.{Room}
 use Rattle.imgproc.specs.declared.tally.Tally.{Tally}
-use Rattle.imgproc.specs.Sweeps.{Morphed, MorphReady, PairReady, PairMorphed}
+use Rattle.imgproc.specs.Sweeps.{RowsSwept, ColumnsSwept, Morphed, MorphReady, PairReady}
 use Rattle.imgproc.proofs.Planes.{columns-ready, morphed, again-ready, pair-morphed}
-use Rattle.imgproc.proofs.rect.Thin.{Nums, NumsFit}
 use Rattle.imgproc.proofs.rect.Says.{Asks, RowsSay, ColumnsSay}
+use Rattle.imgproc.proofs.rect.TwiceNumbers.{Own, num-1, num-2, num-3, num-4, Asked, Done}
 
--- its numbers: from, to, spare, across, down, width, height, first, second
-abbrev pub Own : Type 0
-Own = ℕ × (ℕ × (ℕ × (ℕ × (ℕ × (ℕ × (ℕ × (Bool × (Bool × Unit {0}))))))))
+-- the first two sweeps are the first half, after which the second may come
+module _ (from to spare across down width height : ℕ) (first : Bool) (h₀ r1 r2 : Tally) (d d1 d2 : List ℕ)
+    (ok : PairReady h₀ d from to spare across down width height) (e1 : RowsSwept h₀ d from to spare across width height first r1 d1)
+    (e2 : ColumnsSwept r1 d1 to to spare down width height first r2 d2) where
+  half-done : Morphed h₀ d from to spare across down width height first r2 d2
+  half-done = morphed _ _ _ _ _ _ _ _ h₀ r1 d d1 (ok .once) e1 r2 d2 e2
 
-abbrev pub OwnFit : Own → Type 0
-OwnFit x = (x .0 < 2 ^ 64) × ((x .1 .0 < 2 ^ 64) × ((x .1 .1 .0 < 2 ^ 64) × ((x .1 .1 .1 .0 < 2 ^ 64) × ((x .1 .1 .1 .1 .0 < 2 ^ 64) × ((x .1 .1 .1 .1 .1 .0 < 2 ^ 64) × (x .1 .1 .1 .1 .1 .1 .0 < 2 ^ 64))))))
-
--- the numbers of each call
-abbrev pub num-1 : Own → Nums
-num-1 x = (x .0, (x .1 .0, (x .1 .1 .0, (x .1 .1 .1 .0, (x .1 .1 .1 .1 .1 .0, (x .1 .1 .1 .1 .1 .1 .0, (x .1 .1 .1 .1 .1 .1 .1 .0, tt)))))))
-
-pub fit-1 : (x : Own) → OwnFit x → NumsFit (num-1 x)
-fit-1 x fit = ((fit .0), ((fit .1 .0), ((fit .1 .1 .0), ((fit .1 .1 .1 .0), ((fit .1 .1 .1 .1 .1 .0), (fit .1 .1 .1 .1 .1 .1))))))
-
-abbrev pub num-2 : Own → Nums
-num-2 x = (x .1 .0, (x .1 .0, (x .1 .1 .0, (x .1 .1 .1 .1 .0, (x .1 .1 .1 .1 .1 .0, (x .1 .1 .1 .1 .1 .1 .0, (x .1 .1 .1 .1 .1 .1 .1 .0, tt)))))))
-
-pub fit-2 : (x : Own) → OwnFit x → NumsFit (num-2 x)
-fit-2 x fit = ((fit .1 .0), ((fit .1 .0), ((fit .1 .1 .0), ((fit .1 .1 .1 .1 .0), ((fit .1 .1 .1 .1 .1 .0), (fit .1 .1 .1 .1 .1 .1))))))
-
-abbrev pub num-3 : Own → Nums
-num-3 x = (x .1 .0, (x .1 .0, (x .1 .1 .0, (x .1 .1 .1 .0, (x .1 .1 .1 .1 .1 .0, (x .1 .1 .1 .1 .1 .1 .0, (x .1 .1 .1 .1 .1 .1 .1 .1 .0, tt)))))))
-
-pub fit-3 : (x : Own) → OwnFit x → NumsFit (num-3 x)
-fit-3 x fit = ((fit .1 .0), ((fit .1 .0), ((fit .1 .1 .0), ((fit .1 .1 .1 .0), ((fit .1 .1 .1 .1 .1 .0), (fit .1 .1 .1 .1 .1 .1))))))
-
-abbrev pub num-4 : Own → Nums
-num-4 x = (x .1 .0, (x .1 .0, (x .1 .1 .0, (x .1 .1 .1 .1 .0, (x .1 .1 .1 .1 .1 .0, (x .1 .1 .1 .1 .1 .1 .0, (x .1 .1 .1 .1 .1 .1 .1 .1 .0, tt)))))))
-
-pub fit-4 : (x : Own) → OwnFit x → NumsFit (num-4 x)
-fit-4 x fit = ((fit .1 .0), ((fit .1 .0), ((fit .1 .1 .0), ((fit .1 .1 .1 .1 .0), ((fit .1 .1 .1 .1 .1 .0), (fit .1 .1 .1 .1 .1 .1))))))
-
--- what is asked
-abbrev pub Asked : Tally → List ℕ → Own → Type 0
-Asked t d x = PairReady t d (x .0) (x .1 .0) (x .1 .1 .0) (x .1 .1 .1 .0) (x .1 .1 .1 .1 .0) (x .1 .1 .1 .1 .1 .0) (x .1 .1 .1 .1 .1 .1 .0)
-
--- what is said of the tally and the lists at entry, of the tally that is returned, and of the mutable lists at exit
-abbrev pub Done : Tally → List ℕ → Own → Tally → List ℕ → Type 0
-Done t d x r d′ = PairMorphed t d (x .0) (x .1 .0) (x .1 .1 .0) (x .1 .1 .1 .0) (x .1 .1 .1 .1 .0) (x .1 .1 .1 .1 .1 .0) (x .1 .1 .1 .1 .1 .1 .0) (x .1 .1 .1 .1 .1 .1 .1 .0) (x .1 .1 .1 .1 .1 .1 .1 .1 .0) r d′
+  half-ready : MorphReady r2 d2 to to spare across down width height
+  half-ready = again-ready _ _ _ _ _ _ _ _ h₀ r2 d d2 ok half-done
 
 module _ (h₀ : Tally) (d : List ℕ) (x : Own) (ok : Asked h₀ d x) (room : Room u8 (length d)) where
   pub asks-1 : Asks h₀ d (num-1 x)
@@ -61,19 +32,14 @@ module _ (h₀ : Tally) (d : List ℕ) (x : Own) (ok : Asked h₀ d x) (room : R
     asks-2 = columns-ready _ _ _ _ _ _ _ _ h₀ r1 d d1 (ok .once) e1
 
     module _ (r2 : Tally) (d2 : List ℕ) (e2 : ColumnsSay r1 d1 (num-2 x) r2 d2) (long2 : length d2 ≡ length d1) where
-      -- the first half is done, and what the second asks
-      half : Morphed h₀ d (x .0) (x .1 .0) (x .1 .1 .0) (x .1 .1 .1 .0) (x .1 .1 .1 .1 .0) (x .1 .1 .1 .1 .1 .0) (x .1 .1 .1 .1 .1 .1 .0) (x .1 .1 .1 .1 .1 .1 .1 .0) r2 d2
-      half = morphed _ _ _ _ _ _ _ _ h₀ r1 d d1 (ok .once) e1 r2 d2 e2
-
-      more : MorphReady r2 d2 (x .1 .0) (x .1 .0) (x .1 .1 .0) (x .1 .1 .1 .0) (x .1 .1 .1 .1 .0) (x .1 .1 .1 .1 .1 .0) (x .1 .1 .1 .1 .1 .1 .0)
-      more = again-ready _ _ _ _ _ _ _ _ h₀ r2 d d2 ok half
-
       pub asks-3 : Asks r2 d2 (num-3 x)
-      asks-3 = more .rows
+      asks-3 = half-ready _ _ _ _ _ _ _ _ h₀ r1 r2 d d1 d2 ok e1 e2 .rows
 
       module _ (r3 : Tally) (d3 : List ℕ) (e3 : RowsSay r2 d2 (num-3 x) r3 d3) (long3 : length d3 ≡ length d2) where
         pub asks-4 : Asks r3 d3 (num-4 x)
-        asks-4 = columns-ready _ _ _ _ _ _ _ _ r2 r3 d2 d3 more e3
+        asks-4 = columns-ready _ _ _ _ _ _ _ _ r2 r3 d2 d3 (half-ready _ _ _ _ _ _ _ _ h₀ r1 r2 d d1 d2 ok e1 e2) e3
 
         pub at-exit : (r4 : Tally) (d4 : List ℕ) → ColumnsSay r3 d3 (num-4 x) r4 d4 → length d4 ≡ length d3 → Done h₀ d x r4 d4
-        at-exit r4 d4 e4 long4 = pair-morphed _ _ _ _ _ _ _ _ h₀ r2 d d2 ok half _ r4 d4 (morphed _ _ _ _ _ _ _ _ r2 r3 d2 d3 more e3 r4 d4 e4)
+        at-exit r4 d4 e4 long4 =
+            pair-morphed _ _ _ _ _ _ _ _ h₀ r2 d d2 ok (half-done _ _ _ _ _ _ _ _ h₀ r1 r2 d d1 d2 ok e1 e2) _ r4 d4
+            (morphed _ _ _ _ _ _ _ _ r2 r3 d2 d3 (half-ready _ _ _ _ _ _ _ _ h₀ r1 r2 d d1 d2 ok e1 e2) e3 r4 d4 e4)

@@ -1,6 +1,6 @@
 //! `tile_grid_build` against the Rust's `TileThresholdGrid::build`.
 
-use crate::case::{listed, Buffer, Case, Expected, Left, Outcome, Places};
+use crate::case::{listed, Buffer, Case, Expected, Left, Outcome, Outs, Places};
 use crate::corner::{self, Corner, LARGEST_OFFSET};
 use crate::document;
 use crate::guard::Guarded;
@@ -24,6 +24,11 @@ pub struct Build {
     pub thresholds: usize,
     pub skips: usize,
     seed: u64,
+}
+
+/// The two numbers that a build gives.
+fn named(tiles_x: usize, tiles_y: usize) -> Outs {
+    vec![("tiles_x", tiles_x as u64), ("tiles_y", tiles_y as u64)]
 }
 
 impl Build {
@@ -112,7 +117,7 @@ impl Case for Build {
         );
         Outcome {
             number,
-            outs: vec![tiles_x as u64, tiles_y as u64],
+            outs: named(tiles_x, tiles_y),
             lent: vec![Buffer::Bytes(src), Buffer::Bytes(thresholds), Buffer::Bytes(skips), Buffer::Words(workspace)],
         }
     }
@@ -122,7 +127,8 @@ impl Case for Build {
         let src = Left::Bytes(Cow::Borrowed(self.src.as_slice()));
         Ok(match self.decided() {
             Err(number) => {
-                Expected { number, outs: vec![d, e], lent: vec![src, Left::Noise(a), Left::Noise(b), Left::Noise(c)] }
+                let outs = named(d as usize, e as usize);
+                Expected { number, outs, lent: vec![src, Left::Noise(a), Left::Noise(b), Left::Noise(c)] }
             }
             Ok((grid, stored)) => {
                 let (mut thresholds, mut skips) = (u8::noise(self.thresholds, a), u8::noise(self.skips, b));
@@ -133,7 +139,7 @@ impl Case for Build {
                 let (thresholds, skips) = (Left::Bytes(Cow::Owned(thresholds)), Left::Bytes(Cow::Owned(skips)));
                 Expected {
                     number: 0,
-                    outs: vec![grid.tiles_x() as u64, grid.tiles_y() as u64],
+                    outs: named(grid.tiles_x(), grid.tiles_y()),
                     lent: vec![src, thresholds, skips, Left::Open],
                 }
             }
@@ -152,7 +158,7 @@ impl Case for Build {
         let answer = ours::tile_grid_build(&self.src, self.g, &config, &mut workspace, &mut thresholds, &mut skips);
         let right = match Refusal::from_number(expected.number) {
             Some(refusal) => answer == Err(refusal),
-            None => answer.is_ok_and(|grid| vec![grid.tiles_x as u64, grid.tiles_y as u64] == expected.outs),
+            None => answer.is_ok_and(|grid| named(grid.tiles_x, grid.tiles_y) == expected.outs),
         };
         if right {
             Ok(())

@@ -4,6 +4,7 @@ use super::build::Build;
 use crate::corner::{LARGEST_OFFSET, LARGEST_RADIUS};
 use crate::layouts::{largest, picture, sides, spoil, EDGES};
 use crate::levels;
+use crate::patterns;
 use crate::rng::{Rng, Word};
 use crate::run::{same_defaults, Checked, Plan, Run};
 use imgproc::grid::{TileThresholdConfig, TileThresholdMethod};
@@ -81,6 +82,7 @@ pub fn random(run: &mut Run, rng: &mut Rng) -> Checked {
         case.thresholds += rng.below(9);
         case.skips += rng.below(9);
     }
+    patterns::mix(rng, &mut case.k, &mut case.dynamic_range);
     match rng.below(24) {
         0..=1 => spoil(rng, &mut case.src, &mut case.g),
         2 => case.config.tile_width = 0,
@@ -133,11 +135,23 @@ pub fn fixed(run: &mut Run, plan: &Plan) -> Checked {
             run.case(&Build::exact(src, Geometry::packed(width, height), config, 8))?;
         }
     }
+    of_each_pair(run, usual)?;
     for method in METHODS {
         let usual = TileThresholdConfig { method, ..usual };
         small_at_corners(run, usual)?;
         if plan.large {
             largest_at_corners(run, usual)?;
+        }
+    }
+    Ok(())
+}
+
+/// Every pair of patterns as k and dynamic_range, over a picture with a spread and over ones without.
+fn of_each_pair(run: &mut Run, usual: TileThresholdConfig) -> Checked {
+    for (k, dynamic_range) in patterns::pairs() {
+        let config = TileThresholdConfig { method: TileThresholdMethod::Sauvola { k, dynamic_range }, ..usual };
+        for src in [vec![10, 200, 90, 31], vec![0; 4], vec![255; 4]] {
+            run.case(&Build::exact(src, Geometry::packed(2, 2), config, 14))?;
         }
     }
     Ok(())

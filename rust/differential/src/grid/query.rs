@@ -116,7 +116,7 @@ impl Case for Query {
             Call::IsSkip => flat::is_skip(self.grid, &tiles, self.x, self.y, &mut value),
             Call::RowAllSkip => flat::row_all_skip(self.grid, &tiles, self.y, &mut value),
         };
-        Outcome { number, outs: vec![u64::from(value)], lent: vec![Buffer::Bytes(tiles)] }
+        Outcome { number, outs: vec![("value", u64::from(value))], lent: vec![Buffer::Bytes(tiles)] }
     }
 
     fn expected(&self) -> Result<Expected<'_>, String> {
@@ -135,7 +135,7 @@ impl Case for Query {
             }
         }
         let tiles = Left::Bytes(Cow::Borrowed(self.tiles.as_slice()));
-        Ok(Expected { number, outs: vec![u64::from(value)], lent: vec![tiles] })
+        Ok(Expected { number, outs: vec![("value", u64::from(value))], lent: vec![tiles] })
     }
 
     fn safe(&self, expected: &Expected<'_>) -> Result<(), String> {
@@ -145,7 +145,7 @@ impl Case for Query {
             Call::RowAllSkip => ours::row_all_skip(self.grid, &self.tiles, self.y).map(u64::from),
         };
         let want = match Refusal::from_number(expected.number) {
-            None => Ok(expected.outs[0]),
+            None => Ok(expected.outs[0].1),
             Some(refusal) => Err(refusal),
         };
         if answer != want {

@@ -96,7 +96,7 @@ impl Case for Asked {
     fn ours(&self) -> Outcome {
         let (mut data, mut out, mut value) = (Guarded::new(&self.data), Guarded::new(&self.out), self.value);
         let (number, outs) = match self.call {
-            Call::Get => (flat::get(&data, self.g, self.x, self.y, &mut value), vec![value as u64]),
+            Call::Get => (flat::get(&data, self.g, self.x, self.y, &mut value), vec![("value", u64::from(value))]),
             Call::Set => (flat::set(&mut data, self.g, self.x, self.y, value), vec![]),
             Call::Row => (flat::row(&data, self.g, self.y, &mut out), vec![]),
         };
@@ -118,7 +118,7 @@ impl Case for Asked {
             Call::Set => vec![written.unwrap_or(same(&self.data))],
             Call::Row => vec![same(&self.data), written.unwrap_or(same(&self.out))],
         };
-        let outs = if self.call == Call::Get { vec![value as u64] } else { vec![] };
+        let outs = if self.call == Call::Get { vec![("value", u64::from(value))] } else { vec![] };
         Ok(Expected { number, outs, lent })
     }
 
@@ -130,7 +130,7 @@ impl Case for Asked {
             Call::Row => image::copy_row(&data, self.g, self.y, &mut out).map(|()| 0),
         };
         let want = match Refusal::from_number(expected.number) {
-            None => Ok(expected.outs.first().copied().unwrap_or(0)),
+            None => Ok(expected.outs.first().map_or(0, |out| out.1)),
             Some(refusal) => Err(refusal),
         };
         if answer != want {

@@ -1,7 +1,7 @@
 //! `reading` against division, opening, grid and threshold of the Rust, one after the other.
 
 use super::shrink;
-use crate::case::{listed, Buffer, Case, Expected, Left, Outcome, Places};
+use crate::case::{listed, Buffer, Case, Expected, Left, Outcome, Outs, Places};
 use crate::corner::{self, Corner, LARGEST_OFFSET, LARGEST_RADIUS};
 use crate::document;
 use crate::guard::Guarded;
@@ -40,6 +40,12 @@ struct Chained {
     light: u64,
     skipped: u64,
     marked: Vec<u8>,
+}
+
+/// The four numbers that a reading gives.
+fn named(counts: ReadingCounts) -> Outs {
+    let ReadingCounts { dark, light, skipped, comparisons } = counts;
+    vec![("dark", dark), ("light", light), ("skipped", skipped), ("comparisons", comparisons)]
 }
 
 /// Tiles of a picture, by document 01's ceilings; tile sides are not 0.
@@ -207,22 +213,24 @@ impl Case for Reading {
         );
         Outcome {
             number,
-            outs: vec![counts.dark, counts.light, counts.skipped, counts.comparisons],
+            outs: named(counts),
             lent: vec![Buffer::Bytes(src), Buffer::Bytes(dst), Buffer::Bytes(bytes), Buffer::Words(words)],
         }
     }
 
     fn expected(&self) -> Result<Expected<'_>, String> {
-        let [a, b, held @ ..] = self.noise();
+        let [a, b, dark, light, skipped, comparisons] = self.noise();
         let src = Left::Bytes(Cow::Borrowed(self.src.as_slice()));
         Ok(match self.decided() {
             Err(number) => {
                 let dst = Left::Bytes(Cow::Borrowed(self.dst.as_slice()));
-                Expected { number, outs: held.to_vec(), lent: vec![src, dst, Left::Noise(a), Left::Noise(b)] }
+                let outs = named(ReadingCounts { dark, light, skipped, comparisons });
+                Expected { number, outs, lent: vec![src, dst, Left::Noise(a), Left::Noise(b)] }
             }
             Ok(chained) => {
                 let dst = Left::Bytes(Cow::Owned(self.painted(&chained.marked)));
-                let outs = vec![chained.dark, chained.light, chained.skipped, self.comparisons()?];
+                let Chained { dark, light, skipped, .. } = chained;
+                let outs = named(ReadingCounts { dark, light, skipped, comparisons: self.comparisons()? });
                 Expected { number: 0, outs, lent: vec![src, dst, Left::Open, Left::Open] }
             }
         })
@@ -240,11 +248,10 @@ impl Case for Reading {
         let config = ReadingConfig { grid: TileThresholdConfig { method, ..self.config.grid }, ..self.config };
         let mut dst = self.dst.clone();
         let (mut bytes, mut words) = (vec![0; self.bytes], vec![0; self.words]);
-        let answer = ours::reading(&self.src, self.s, &mut dst, self.d, &config, &mut bytes, &mut words);
-        let want = match (Refusal::from_number(expected.number), expected.outs.as_slice()) {
-            (None, &[dark, light, skipped, comparisons]) => Ok(ReadingCounts { dark, light, skipped, comparisons }),
-            (None, outs) => unreachable!("a reading has four counts, not {outs:?}"),
-            (Some(refusal), _) => Err(refusal),
+        let answer = ours::reading(&self.src, self.s, &mut dst, self.d, &config, &mut bytes, &mut words).map(named);
+        let want = match Refusal::from_number(expected.number) {
+            None => Ok(expected.outs.clone()),
+            Some(refusal) => Err(refusal),
         };
         let painted = matches!(&expected.lent[1], Left::Bytes(bytes) if bytes.as_ref() == dst.as_slice());
         if answer != want || !painted {

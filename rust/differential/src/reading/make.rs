@@ -6,6 +6,7 @@ use crate::grid;
 use crate::illumination;
 use crate::layouts::{another_size, good, largest, picture, sides, spoil, EDGES};
 use crate::levels;
+use crate::patterns;
 use crate::rng::{Rng, Word};
 use crate::run::{Checked, Plan, Run};
 use crate::sauvola;
@@ -101,6 +102,7 @@ pub fn random(run: &mut Run, rng: &mut Rng) -> Checked {
         8 => (case.bytes, case.words) = (rng.below(bytes), rng.below(words)),
         _ => {}
     }
+    patterns::mix(rng, &mut case.k, &mut case.dynamic_range);
     if rng.one_in(10) {
         wrong(rng, &mut case);
         if rng.one_in(3) {
@@ -138,8 +140,18 @@ pub fn fixed(run: &mut Run, plan: &Plan) -> Checked {
     }
     small_at_corners(run, usual)?;
     small_at_corners(run, unskipped)?;
+    of_each_pair(run, small)?;
     if plan.large {
         largest_at_corners(run, unskipped)?;
+    }
+    Ok(())
+}
+
+/// Every pair of patterns as the grid's k and dynamic_range: no pixel depends on them, only whether they are refused.
+fn of_each_pair(run: &mut Run, mut config: ReadingConfig) -> Checked {
+    for (k, dynamic_range) in patterns::pairs() {
+        config.grid.method = TileThresholdMethod::Sauvola { k, dynamic_range };
+        run.case(&Reading::packed(config, vec![10, 200, 90, 31], 2, 2, 15))?;
     }
     Ok(())
 }

@@ -61,7 +61,8 @@ fn simpler(c: ReadingConfig) -> Vec<ReadingConfig> {
     list[2].grid.neighborhood_radius /= 2;
     list[3].grid.contrast_floor /= 2;
     list[4].sauvola.radius = c.sauvola.radius.div_ceil(2);
-    list.retain(|next| *next != c);
+    // As text, since a NaN among the settings equals nothing.
+    list.retain(|next| format!("{next:?}") != format!("{c:?}"));
     list
 }
 

@@ -1,0 +1,12 @@
+"""What the code does not tell. A module or a function that gets another name is renamed here, and nowhere else."""
+
+CRATE = 'imgproc'
+# The module of the sweeps and of their owners, and the struct that is lent, as paths with dots.
+MODULE = 'rect'
+TALLY = 'tally.Tally'
+# The owners: functions that lend a tally to sweeps. Each has a name in front of its two files in the module's proofs:
+# `<name>Numbers`, which is generated, and `<name>Facts`, which is written by hand.
+OWNERS = {'morph_rect_into': 'Morph', 'morph_rect_twice': 'Twice'}
+
+SOURCE = f'crates/{CRATE}/src/{MODULE.replace(".", "/")}.rt'
+PROOFS = f'crates/{CRATE}/proofs/{MODULE.replace(".", "/")}'

@@ -1,0 +1,120 @@
+"""Text of terms: lists, nested tuples, and what a plain parameter is in a proof."""
+
+import re
+from pathlib import Path
+
+# The bits of each number type, and its width in the MIR.
+WIDTHS = {'u8': 8, 'u16': 16, 'u32': 32, 'u64': 64, 'usize': 64}
+
+
+def listed(items):
+    return ' ∷ '.join([*items, '[]'])
+
+
+def paired(items, last='tt'):
+    """(a, (b, last)), which is how the logic has the parameters of a function."""
+    for item in reversed(list(items)):
+        last = f'({item}, {last})'
+    return last
+
+
+def product(items, last='Unit {0}'):
+    """The type of such a tuple."""
+    text = last
+    for item in reversed(list(items)):
+        text = f'{item} × {text}' if text == last else f'{item} × ({text})'
+    return text
+
+
+def part(i):
+    """Takes part i of such a tuple."""
+    return ' .1' * i + ' .0'
+
+
+def part_of_many(i, count):
+    """Likewise of a tuple that has nothing behind its last part."""
+    return ' .1' * i if i == count - 1 else part(i)
+
+
+def dashed(name):
+    return name.replace('_', '-')
+
+
+def subscript(number):
+    return ''.join('₀₁₂₃₄₅₆₇₈₉'[int(digit)] for digit in str(number))
+
+
+def filled(template, **values):
+    """A file of this folder, with each @name@ replaced."""
+    text = (Path(__file__).parent / template).read_text()
+    return re.sub(r'@(\w+)@', lambda found: str(values[found[1]]), text)
+
+
+class Number:
+    """A plain parameter's type: a number of some width, or a bool."""
+
+    def __init__(self, rust):
+        self.rust = rust
+        self.is_bool = rust == 'bool'
+        self.width = None if self.is_bool else f'w{WIDTHS[rust]}'
+        self.denoted = 'Bool' if self.is_bool else 'ℕ'
+        self.mir = 'tyBool' if self.is_bool else f'tyInt {self.width}'
+        self.values = 'bool-vals' if self.is_bool else f'uint-vals {self.width}'
+        self.tells = 'bool-tells' if self.is_bool else f'uint-tells {self.width}'
+
+    def value(self, term):
+        return f'vbool ({term})' if self.is_bool else f'vint {self.width} ({term})'
+
+    def fits(self, term):
+        return f'({term} < 2 ^ {WIDTHS[self.rust]})'
+
+    def owned(self, term, fit):
+        """The step that has what the parameter owns, for nothing."""
+        if self.is_bool:
+            return f'owned ! bool (Is bool) (bool-makes 𝓤 H A W) ({term}) _ refl $ fjoin ! $'
+        makes = f'{self.rust} (Is {self.rust}) (uint-makes 𝓤 H A W {self.width})'
+        return f'owned ! {makes} ({term}) _ (refl, {fit}) $ fjoin ! $'
+
+
+class Numbers:
+    """The plain parameters of a function, as one tuple x. That those of them that are no bools fit is a tuple too."""
+
+    def __init__(self, types):
+        self.all = [Number(rust) for rust in types]
+        self.sized = [i for i, number in enumerate(self.all) if not number.is_bool]
+
+    def term(self, i):
+        return f'x{part(i)}'
+
+    def fit(self, i, name='fit'):
+        """What says that number i fits."""
+        return name + part_of_many(self.sized.index(i), len(self.sized))
+
+    def typed(self, i, name='fit'):
+        """What says that the machine value of number i has its type."""
+        return '(tt, tt)' if self.all[i].is_bool else f'(tt, record {{ fits = {self.fit(i, name)} }})'
+
+    def texts(self):
+        """What the templates take from the numbers."""
+        fits = [self.all[i].fits(self.term(i)) for i in self.sized]
+        values = [number.value(self.term(i)) for i, number in enumerate(self.all)]
+        fit = [self.fit(i, 'f') if i in self.sized else '' for i in range(len(self.all))]
+        owned = [number.owned(self.term(i), fit[i]) for i, number in enumerate(self.all)]
+        # Places of the tally and of the slice come first among all parameters.
+        known = [f'are{part(2 + i)} .1' for i in self.sized]
+        return dict(
+            type=product(number.denoted for number in self.all),
+            fit_type=product(fits[:-1], fits[-1]),
+            values_type=product(['List Val'] * len(self.all)),
+            values=paired(f'{value} ∷ []' for value in values),
+            passed=' ∷ '.join([*values, '[]']),
+            types=listed(number.rust for number in self.all),
+            owned=' '.join(reversed(owned)),
+            stay=[f'stay-none (λ _. {number.rust}) yes' for number in self.all],
+            spelt=[number.values for number in self.all],
+            told=[number.tells for number in self.all],
+            known=paired(known[:-1], known[-1]),
+            none=['tt'] * len(self.all),
+            builtins=', '.join(sorted({'u8', *(number.rust for number in self.all)})),
+            widths=', '.join(sorted({number.width for number in self.all if number.width})),
+        )
