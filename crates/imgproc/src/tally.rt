@@ -10,7 +10,7 @@ pub struct Tally {
 }
 
 // The extreme of two samples, and the tally with that comparison in it.
-pub struct Met {
+pub(crate) struct Met {
     tally: Tally,
     value: u8,
 }
