@@ -7,8 +7,8 @@ about, as `rt mir` prints it. No rule holds a copy of the code.
   python3 tools/tally try         tries each edit of crates/*/fence: the one that it names must refuse it (edits.py)
   python3 tools/tally try A B     the edits A and B alone
 
-A breach is printed as file, line and function, what that one does, and the rule. The tool ends with 1 where a rule is broken, or an
-edit is not refused as it says; with 2 where it cannot tell, because the print has another form (mir.py) or the functions that the
+A breach is printed as file, line and function, what that one does, and the rule. The tool ends with 1 where a rule is broken or an
+edit is not refused as it says, and with 2 where it cannot tell: the print has another form (mir.py), or the functions that the
 rules name are not in it (program.py)."""
 import pathlib
 import sys
@@ -39,7 +39,9 @@ def main(words):
         return edits.run(ROOT, words[1:]) if words else check()
     except Unknown as unknown:
         print(f'tally: cannot tell: {unknown}')
-        return 2
+    except (IndexError, KeyError, TypeError, ValueError) as error:
+        print(f'tally: cannot tell: the print has another form than mir.py knows: {error!r}')
+    return 2
 
 
 sys.exit(main(sys.argv[1:]))

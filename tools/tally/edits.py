@@ -1,5 +1,5 @@
-"""Tries the edits of crates/*/fence: frauds on the tally, each with who refuses it, and honest changes that must pass. They have the form
-of the must-fail edits, and a line that says
+"""Tries the edits of crates/*/fence: frauds on the tally, each with who refuses it, and honest changes that must pass. They have
+the form of the must-fail edits, and a line that says
 
   refused by: compiler CODE     `rt mir` rejects the crate with this error
   refused by: check RULE        the crate compiles, and this rule is broken
@@ -29,7 +29,8 @@ class Edit:
             if line == 'passes':
                 self.wanted = ('nobody', '')
             elif word == 'refused by':
-                self.wanted = (rest.split(' ') + [''])[0], (rest.split(' ') + [''])[1]
+                who, _, why = rest.partition(' ')
+                self.wanted = (who, why)
             elif word == 'file':
                 file = rest
             elif word == 'old':

@@ -21,8 +21,8 @@ REPORTING = ('answer', 'imgproc_c')
 class Code:
     def __init__(self, program):
         self.program, self.functions = program, program.functions
-        self.expect(START, LESSER, GREATER, COUNTED, CHOSEN, NUMBER, *OTHER_PARTS, *OTHER_PARTS.values())
         self.called = {f.name: [callee(c) for c in calls(f.body)] for f in self.functions.values()}
+        self.expect(START, LESSER, GREATER, COUNTED, CHOSEN, NUMBER, LINE, *OTHER_PARTS, *OTHER_PARTS.values())
         self.sweeping = self.reaching({LESSER, GREATER})
         self.library = [f for f in self.of('imgproc') if not f.name.startswith(MODULE)]
         self.above = [f for crate in REPORTING for f in self.of(crate)]
@@ -32,6 +32,8 @@ class Code:
         """A rule that finds nothing to look at must not pass."""
         missing = [n for n in names if n not in self.functions]
         missing += [n for n in (TALLY, MET) if n not in self.program.variants]
+        readers = {name.split('::')[0] for name in self.callers(NUMBER)}
+        missing += [f'reader of a tally in {crate}' for crate in REPORTING if crate not in readers]
         if missing:
             raise Unknown('the print has no ' + ', '.join(missing))
 

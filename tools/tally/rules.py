@@ -1,5 +1,5 @@
-"""The rules. Each is a function: what document 01, part 2, says, and then what is looked at. It gives each function that breaks the
-rule, and what that one does."""
+"""The rules. Each is a function: first what document 01, part 2, says, then what is looked at. It gives each function that breaks
+the rule, and what that one does."""
 import mir
 from mir import BYTE, callee, calls, head, items, operands, statements
 from program import CHOSEN, COUNTED, GREATER, LESSER, MODULE, NUMBER, OTHER_PARTS, START, Code, short
@@ -20,7 +20,7 @@ def an_extreme_compares_once(code):
         values = [s[2] for s in statements(f.body) if s[0] == 'assign']
         done = sorted(head(v[1]) for v in values if v[0] in ('op1', 'op2'))
         if done != known[f.name]:
-            yield f.name, f'computes {done} where {known[f.name]} is wanted'
+            yield f.name, f'computes {", ".join(done) or "nothing"} where {", ".join(known[f.name]) or "nothing"} is wanted'
         if any(s[0] in ('call', 'loop', 'switch') for s in statements(f.body)):
             yield f.name, 'calls something or goes round a loop'
         if any(head(v[1]) == 'lt' and sorted(map(mir.show, v[2:])) != samples for v in values if v[0] == 'op2'):
@@ -30,12 +30,12 @@ def an_extreme_compares_once(code):
 
 
 def the_extremes_are_called_in_one_place(code):
-    """Every extreme of a sweep comes out of the two functions. They are called once each, in one function, and what is met there are
-    samples of the picture and no numbers made up to be counted."""
+    """Every extreme of a sweep comes out of the two functions. They are called once each, in one function, and what is met there
+    are samples of the picture and no numbers made up to be counted."""
     lesser, greater = code.callers(LESSER), code.callers(GREATER)
     if len(lesser) != 1 or lesser != greater:
         for name in sorted({*lesser, *greater}):
-            yield name, f'calls `lesser` {lesser.count(name)} times and `greater` {greater.count(name)} times'
+            yield name, f'calls `lesser` and `greater` {lesser.count(name)} and {greater.count(name)} times'
         if not (lesser and greater):
             yield LESSER, 'or `greater` is not called'
     for f in code.functions.values():
@@ -45,16 +45,17 @@ def the_extremes_are_called_in_one_place(code):
 
 
 def what_carries_a_tally_is_handed_on_once(code):
-    """Nothing sets the tally back or lowers it, and no comparison goes uncounted. Whoever has a tally hands it on exactly once on every
-    way, neither dropped nor used twice. Of an extreme and its tally both are taken, and the extreme is stored, or met again."""
+    """Nothing sets the tally back or lowers it, and no comparison goes uncounted. Whoever has a tally hands it on exactly once on
+    every way, neither dropped nor used twice. Of an extreme and its tally both are taken, and the extreme is stored, or met
+    again."""
     for f in code.library + code.above:
         if any(map(code.carries, f.types)):
             yield from HandedOn(code, f).broken
 
 
 def each_call_that_sweeps_starts_one_tally(code):
-    """Every call that sweeps starts the tally once, before its first sweep. What takes a tally starts none, and what sweeps and takes
-    none starts one, at one place that no loop comes back to."""
+    """Every call that sweeps starts the tally once, before its first sweep. What takes a tally starts none, and what sweeps and
+    takes none starts one, at one place that no loop comes back to."""
     counts = {START: 1}
 
     def starts(name):
@@ -63,19 +64,21 @@ def each_call_that_sweeps_starts_one_tally(code):
             counts[name] = sum(map(starts, code.called.get(name, [])))
         return counts[name]
 
+    wanted = {f.name: int(f.name in code.sweeping and not any(map(code.carries, f.parameters()))) for f in code.library}
     for f in code.library:
-        wanted = 1 if f.name in code.sweeping and not any(map(code.carries, f.parameters())) else 0
-        if starts(f.name) != wanted:
-            yield f.name, f'starts {starts(f.name)} tallies where {wanted} is wanted'
+        inherited = any(starts(name) != wanted[name] for name in code.called[f.name] if name in wanted)
+        if starts(f.name) != wanted[f.name] and not inherited:
+            yield f.name, f'starts {starts(f.name)} tallies and should start {wanted[f.name]}'
         for s in statements(f.body):
             if s[0] == 'loop' and any(starts(callee(c)) for c in calls(s)):
                 yield f.name, 'starts a tally in a loop'
 
 
 def in_a_sweep_samples_are_only_moved_or_met(code):
-    """Samples are compared nowhere else in an erosion or dilation. In whatever sweeps, and in whatever is lent the bytes of what sweeps, a
-    sample is loaded, stored, or met by the one function that calls the extremes. Nothing computes with it, decides by it, passes it
-    on or keeps it elsewhere, and no sample comes from elsewhere. Parts 3, 5 and 6 are no sweeps and are called by their owners alone."""
+    """Samples are compared nowhere else in an erosion or dilation. In whatever sweeps, and in whatever is lent the bytes of what
+    sweeps, a sample is loaded, stored, or met by the one function that calls the extremes. Nothing computes with it, decides by
+    it, passes it on or keeps it elsewhere, and no sample comes from elsewhere. Parts 3, 5 and 6 are no sweeps; their owners
+    alone lend them bytes."""
     todo = [f for f in code.library if f.name in code.sweeping]
     seen = {f.name for f in todo}
     while todo:
@@ -95,9 +98,13 @@ def in_a_sweep_samples_are_only_moved_or_met(code):
 def lent_to(code, f):
     """Whom a function lends bytes."""
     for call in calls(f.body):
-        kinds = [code.program.type_at(f, a[1]) for a in items(call[2]) if head(a) == 'copy']
-        if any(map(code.lends_bytes, kinds)):
+        if any(map(code.lends_bytes, kinds(code, f, items(call[2])))):
             yield callee(call)
+
+
+def kinds(code, f, given):
+    """The types of the operands that are read from somewhere."""
+    return [code.program.type_at(f, o[1]) for o in given if head(o) == 'copy']
 
 
 def moved_or_met(code, f):
@@ -112,7 +119,7 @@ def moved_or_met(code, f):
             name, sample = callee(s), code.program.type_at(f, s[3]) == BYTE
             if name not in (code.meeting, LESSER, GREATER) and any(code.is_sample(f, a) for a in items(s[2])):
                 yield f.name, f'passes a sample to `{short(name)}`'
-            if sample and (name != CHOSEN or items(s[3][2])):
+            if sample and name != CHOSEN:
                 yield f.name, f'takes a sample from `{short(name)}`'
 
 
@@ -125,13 +132,18 @@ def assigned(code, f, place, value):
         yield 'keeps a sample in a part of something'
     if code.program.type_at(f, place) == BYTE and not samples:
         yield 'makes up a sample'
-    if any(step[0] == 'deref' and step[1] != BYTE and not code.carries(step[1]) for step in steps):
-        yield 'writes to memory that holds no samples'
+    whole = any(map(code.lends_bytes, kinds(code, f, operands(value))))
+    if whole and value[0] in ('op1', 'op2') and head(value[1]) != 'offset':
+        yield 'computes with bytes as a whole'
+    for one in [place, *(o[1] for o in operands(value) if head(o) == 'copy')]:
+        if any(step[0] == 'deref' and step[1] != BYTE and not code.carries(step[1]) for step in items(one[2])):
+            yield 'looks at memory that holds no samples'
 
 
 def a_reported_number_is_read_out_of_its_tally(code):
-    """The reported number is the tally and is never worked out. Nobody in imgproc reads the number. Above it, whoever has an answer takes
-    it apart, writes the number of its tally to the lent number or to the line, and computes, calls and stores nothing else."""
+    """The reported number is the tally and is never worked out. Nobody in imgproc reads the number. Above it, whoever has an answer
+    takes it apart, writes the number of its tally to the lent number or to the line, and computes, calls and stores nothing
+    else."""
     for name in code.callers(NUMBER):
         if name.startswith('imgproc::'):
             yield name, 'reads the number of a tally'

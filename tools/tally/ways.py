@@ -4,7 +4,13 @@ from mir import TAG, Unknown, callee, head, items, operands, statements
 from program import CHOSEN, COUNTED, LINE, MET, NUMBER, REFUSALS, short
 
 NOTHING = frozenset()
-NAMES = {'tally': 'the tally', 'reference': 'the lent tally', 'value': 'the extreme', 'sample': 'the extreme', 'number': 'the number'}
+NAMES = {
+    'tally': 'the tally',
+    'reference': 'the lent tally',
+    'value': 'the extreme',
+    'sample': 'the extreme',
+    'number': 'the number',
+}
 
 
 class Ways:
@@ -145,7 +151,9 @@ class HandedOn(Ways):
     def put(self, place, parts, origin, state):
         n, steps = int(place[1]), items(place[2])
         if steps and not self.code.carries(self.kind(place)):
-            return state  # an extreme or a number is stored
+            if parts and not any(step[0] == 'deref' for step in steps):
+                self.no('keeps an extreme or a number in a part of something')
+            return state  # it is stored
         if steps and not (self.lent(n) and self.passed(n) and len(steps) == 1):
             self.no('puts a tally into a part of something, or through a reference of its own')
         if state.get(n):
@@ -209,37 +217,45 @@ class HandedOn(Ways):
 
 
 class Reported(Ways):
-    """Notes whether the function has an answer already, or has called one that reports it. From there on it only takes the answer
-    apart: no arithmetic, no other call, and it stores only parts of the answer and the number of its tally."""
+    """Notes how far the function is: it has no answer; it has one, or has called one that reports it; it has written the line. With an
+    answer it only takes that apart: no arithmetic, no other call, and it stores only parts of the answer and the number of
+    its tally. After the line it calls nothing."""
+
+    NONE, ANSWERED, WRITTEN = range(3)
 
     def __init__(self, code, function, reporting):
         self.reporting = reporting
         set_by = {}
         for s in statements(function.body):
-            if s[0] in ('assign', 'call'):
-                set_by.setdefault(int(s[-1 if s[0] == 'call' else 1][1]), set()).add(callee(s) if s[0] == 'call' else None)
+            if s[0] == 'call':
+                set_by.setdefault(int(s[3][1]), set()).add(callee(s))
+            if s[0] == 'assign':
+                set_by.setdefault(int(s[1][1]), set()).add('assigned')
         self.numbers = {n for n, by in set_by.items() if by == {NUMBER}}
         super().__init__(code, function)
 
     def begin(self):
-        return any(map(self.code.carries, self.function.parameters()))
+        return self.ANSWERED if any(map(self.code.carries, self.function.parameters())) else self.NONE
 
     def join(self, states):
-        return any(states)
+        return max(states)
 
-    def assign(self, place, value, answered):
-        if answered and value[0] in ('op1', 'op2'):
-            self.no('computes after it has an answer')
+    def of_the_answer(self, operand):
+        n = int(operand[1][1]) if head(operand) == 'copy' else None
+        return n is not None and (n in self.numbers or self.code.carries(self.function.types[n]))
+
+    def assign(self, place, value, state):
         stores = any(step[0] == 'deref' for step in items(place[2]))
-        if answered and stores and value[0] != 'addrOf':
-            for operand in operands(value):
-                n = int(operand[1][1]) if head(operand) == 'copy' else None
-                if n is None or n not in self.numbers and not self.code.carries(self.function.types[n]):
-                    self.no('stores a number that is not of the answer')
-        return answered
+        if state and value[0] in ('op1', 'op2'):
+            self.no('computes after it has an answer')
+        if state and stores and not all(map(self.of_the_answer, operands(value))):
+            self.no('stores a number that is not of the answer')
+        return state
 
-    def call(self, name, arguments, place, answered):
+    def call(self, name, arguments, place, state):
         takes = any(head(a) == 'copy' and self.code.carries(self.kind(a[1])) for a in arguments)
-        if answered and not takes and name not in (LINE, *REFUSALS):
-            self.no(f'calls `{short(name)}` after it has an answer')
-        return answered or self.code.carries(self.kind(place)) or name in self.reporting
+        if state == self.WRITTEN or state == self.ANSWERED and not takes and name not in (LINE, *REFUSALS):
+            self.no(f'calls `{short(name)}` after it has {"written its line" if state == self.WRITTEN else "an answer"}')
+        if name == LINE:
+            return self.WRITTEN
+        return max(state, self.ANSWERED if self.code.carries(self.kind(place)) or name in self.reporting else self.NONE)
