@@ -217,11 +217,11 @@ class HandedOn(Ways):
 
 
 class Reported(Ways):
-    """Notes how far the function is: it has no answer; it has one, or has called one that reports it; it has written the line. With an
-    answer it only takes that apart: no arithmetic, no other call, and it stores only parts of the answer and the number of
-    its tally. After the line it calls nothing."""
+    """Notes how far the function is: it has no answer yet; it has one; its answer is reported, by the line or by another that took it.
+    With an answer it only takes that apart: no arithmetic, no other call, and it stores only parts of the answer and the number of
+    its tally. Afterwards it calls and stores nothing."""
 
-    NONE, ANSWERED, WRITTEN = range(3)
+    NONE, ANSWERED, DONE = range(3)
 
     def __init__(self, code, function, reporting):
         self.reporting = reporting
@@ -248,14 +248,16 @@ class Reported(Ways):
         stores = any(step[0] == 'deref' for step in items(place[2]))
         if state and value[0] in ('op1', 'op2'):
             self.no('computes after it has an answer')
-        if state and stores and not all(map(self.of_the_answer, operands(value))):
+        if state and stores and not (state == self.ANSWERED and all(map(self.of_the_answer, operands(value)))):
             self.no('stores a number that is not of the answer')
         return state
 
     def call(self, name, arguments, place, state):
         takes = any(head(a) == 'copy' and self.code.carries(self.kind(a[1])) for a in arguments)
-        if state == self.WRITTEN or state == self.ANSWERED and not takes and name not in (LINE, *REFUSALS):
-            self.no(f'calls `{short(name)}` after it has {"written its line" if state == self.WRITTEN else "an answer"}')
-        if name == LINE:
-            return self.WRITTEN
-        return max(state, self.ANSWERED if self.code.carries(self.kind(place)) or name in self.reporting else self.NONE)
+        if state == self.DONE:
+            self.no(f'calls `{short(name)}` after its answer is reported')
+        elif state == self.ANSWERED and not takes and name not in (LINE, *REFUSALS):
+            self.no(f'calls `{short(name)}` while it has an answer')
+        if self.code.carries(self.kind(place)):
+            return self.ANSWERED
+        return self.DONE if name == LINE or name in self.reporting else state
