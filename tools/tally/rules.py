@@ -68,7 +68,7 @@ def each_call_that_sweeps_starts_one_tally(code):
     for f in code.library:
         inherited = any(starts(name) != wanted[name] for name in code.called[f.name] if name in wanted)
         if starts(f.name) != wanted[f.name] and not inherited:
-            yield f.name, f'starts {starts(f.name)} tallies and should start {wanted[f.name]}'
+            yield f.name, f'starts {starts(f.name)} and should start {wanted[f.name]} tallies'
         for s in statements(f.body):
             if s[0] == 'loop' and any(starts(callee(c)) for c in calls(s)):
                 yield f.name, 'starts a tally in a loop'
