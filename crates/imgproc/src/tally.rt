@@ -1,5 +1,6 @@
 // One tally of comparisons. Its number is private: only `lesser` and `greater` raise one, each by 1 with the extreme
-// that it gives, and only `start` makes one.
+// that it gives, and only `start` makes one. Callers outside the crate have `Tally`, which answers carry, and
+// `comparisons`, which reads its number.
 ghost use mathlib.Core.Path.{_≡_};
 ghost use Prim.Native.Nat.{_+_, _<_, _^_, min, max};
 ghost use Rattle.imgproc.specs.Compared.{Compares};
@@ -9,34 +10,34 @@ pub struct Tally {
     comparisons: u64,
 }
 
-// The extreme of two samples, and the tally with that comparison in it.
-pub struct Met {
+// The extreme of two samples, and the tally with that comparison in it. Nobody else can make one or exchange its parts.
+pub(crate) struct Met {
     tally: Tally,
     value: u8,
 }
 
-// The tally with that comparison in it.
+// Takes the tally out, with that comparison in it.
 pub(crate) fn counted(met: Met) -> Tally
     ensures { λ r. ⌜ r .comparisons ≡ met .tally .comparisons ⌝ }
 {
     met.tally
 }
 
-// The extreme.
+// Takes the extreme out.
 pub(crate) fn chosen(met: Met) -> u8
     ensures { λ r. ⌜ r ≡ met .value ⌝ }
 {
     met.value
 }
 
-// A tally of no comparisons.
+// Starts a tally, of no comparisons.
 pub(crate) fn start() -> Tally
     ensures { λ r. ⌜ r .comparisons ≡ 0 ⌝ }
 {
     Tally { comparisons: 0 }
 }
 
-// The number of a tally.
+// Reads the number of a tally.
 pub fn comparisons(tally: Tally) -> u64
     ensures { λ r. ⌜ r ≡ tally .comparisons ⌝ }
 {

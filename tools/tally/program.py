@@ -1,0 +1,69 @@
+"""The program as the rules see it: what carries a tally, what sweeps, who calls whom. The names that the rules know stand here."""
+from mir import BYTE, Unknown, callee, calls, head
+
+MODULE = 'imgproc::tally::'
+TALLY, MET = MODULE + 'Tally', MODULE + 'Met'
+START, LESSER, GREATER, COUNTED, CHOSEN, NUMBER = (
+    MODULE + name for name in ('start', 'lesser', 'greater', 'counted', 'chosen', 'comparisons')
+)
+# Parts 3, 5 and 6 of document 01 look at samples by rules of their own, after a sweep. Each is called by one function.
+OTHER_PARTS = {
+    'imgproc::illumination::divide_plane': 'imgproc::illumination::flatten',
+    'imgproc::reading::mark_tiles': 'imgproc::reading::read_picture',
+    'imgproc::judging::judge_picture': 'imgproc::reading::read_picture',
+}
+# Who writes the program's line, and who tells a refusal: all that the holder of an answer calls.
+LINE, REFUSALS = 'pgm::counts_line', ('imgproc::number', 'pgm::refused_line')
+# The crates that report a number.
+REPORTING = ('answer', 'imgproc_c')
+
+
+class Code:
+    def __init__(self, program):
+        self.program, self.functions = program, program.functions
+        self.called = {f.name: [callee(c) for c in calls(f.body)] for f in self.functions.values()}
+        self.expect(START, LESSER, GREATER, COUNTED, CHOSEN, NUMBER, LINE, *OTHER_PARTS, *OTHER_PARTS.values())
+        self.sweeping = self.reaching({LESSER, GREATER})
+        self.library = [f for f in self.of('imgproc') if not f.name.startswith(MODULE)]
+        self.above = [f for crate in REPORTING for f in self.of(crate)]
+        self.meeting = next(iter(self.callers(LESSER)), None)  # the one that calls the extremes
+
+    def expect(self, *names):
+        """A rule that finds nothing to look at must not pass."""
+        missing = [n for n in names if n not in self.functions]
+        missing += [n for n in (TALLY, MET) if n not in self.program.variants]
+        readers = {name.split('::')[0] for name in self.callers(NUMBER)}
+        missing += [f'reader of a tally in {crate}' for crate in REPORTING if crate not in readers]
+        if missing:
+            raise Unknown('the print has no ' + ', '.join(missing))
+
+    def of(self, crate):
+        return [f for f in self.functions.values() if f.name.startswith(crate + '::')]
+
+    def callers(self, name):
+        """Who calls a function, once for each call."""
+        return [caller for caller, called in self.called.items() for one in called if one == name]
+
+    def reaching(self, names):
+        """These functions, and every one from which one of them is called in the end."""
+        found = set(names)
+        while more := {f for f, called in self.called.items() if found & set(called)} - found:
+            found |= more
+        return found
+
+    def carries(self, kind):
+        """Whether a value of this type has a tally in it, or behind it."""
+        return self.program.holds(kind, lambda t: t[:1] == ['tyNamed'] and t[1][1] == TALLY)
+
+    def lends_bytes(self, kind):
+        """Whether bytes can be reached through a value of this type."""
+        return self.program.holds(
+            kind, lambda t: t == 'tyPtr' or t[:1] == ['tyRef'] and t[3] == BYTE or t[:2] == ['tyArray', BYTE]
+        )
+
+    def is_sample(self, function, operand):
+        return head(operand) == 'copy' and self.program.type_at(function, operand[1]) == BYTE
+
+
+def short(name):
+    return name.split('::')[-1]
