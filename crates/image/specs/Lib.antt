@@ -8,5 +8,7 @@ pub mod Layouts
 pub mod LayoutLaws
 pub mod PlaneLaws
 pub mod PaintLaws
+pub mod Views
+pub mod CopyLaws
 pub mod PaintRows
 pub mod FillLaws

@@ -70,10 +70,21 @@ pub pixel-packed : (d : List ℕ) (w h stride x y : ℕ) → x < w → y < h →
 unfolding packed
 pixel-packed d w h stride x y X Y = pixel-plane w h (pixel d stride) x y X Y
 
+-- w × h numbers that are the pixels of a strided picture are that picture, packed
+pub packed-is : (d : List ℕ) (w h stride : ℕ) (p : List ℕ) → 0 < w → length p ≡ w * h
+    → ((x y : ℕ) → x < w → y < h → pixel p w x y ≡ pixel d stride x y) → packed d w h stride ≡ p
+unfolding packed
+packed-is d w h stride p W l each = sym (is-plane w h (pixel d stride) p W l each)
+
 -- a packed picture of w × h numbers, packed, is itself
 pub packed-again : (p : List ℕ) (w h : ℕ) → 0 < w → length p ≡ w * h → packed p w h w ≡ p
+packed-again p w h W l = packed-is p w h w p W l (λ x y X Y. refl)
+
+-- two strided pictures with the same pixels are one when packed, whatever their strides, padding and tails
+pub same-pixels : (w h : ℕ) (a b : List ℕ) (sa sb : ℕ) → 0 < w
+    → ((x y : ℕ) → x < w → y < h → pixel a sa x y ≡ pixel b sb x y) → packed a w h sa ≡ packed b w h sb
 unfolding packed
-packed-again p w h W l = sym (is-plane w h (pixel p w) p W l (λ x y X Y. refl))
+same-pixels w h a b sa sb W each = plane-same w h (pixel a sa) (pixel b sb) W each
 
 -- ---- parts of a list, and a part replaced
 

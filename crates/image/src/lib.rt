@@ -7,7 +7,7 @@ ghost use Rattle.image.specs.Layout.{layoutOf, pixelLayout, rowLayout, r
 ghost use Rattle.image.specs.Pixel.{valueIn, Sets};
 ghost use Rattle.image.specs.Row.{rowIn};
 ghost use Rattle.image.specs.Copy.{Packs, Unpacks, copiedNumber};
-ghost use Rattle.image.specs.Plane.{packed, painted, part, overwritten};
+ghost use Rattle.image.specs.Plane.{picture, paintedOn, part, overwritten};
 
 // The largest side of a picture.
 pub const MAX_SIDE: usize = 4096;
@@ -206,7 +206,7 @@ fn copy_row(src: &[u8], dst: &mut [u8])
 // The rows of a picture, one after another from `at` on.
 fn pack_rows(src: &[u8], geometry: Geometry, workspace: &mut [u8], at: usize)
     requires { ⌜ Kept (length (now src)) geometry × (at + geometry .width * geometry .height ≤ length (now workspace)) ⌝ }
-    ensures { λ _. ⌜ now (workspace .exit) ≡ overwritten at (packed (now (src .entry)) (geometry .width) (geometry .height) (geometry .stride)) (now (workspace .entry)) ⌝ }
+    ensures { λ _. ⌜ now (workspace .exit) ≡ overwritten at (picture (now (src .entry)) geometry) (now (workspace .entry)) ⌝ }
 {
     let width = geometry.width;
     let height = geometry.height;
@@ -222,7 +222,7 @@ fn pack_rows(src: &[u8], geometry: Geometry, workspace: &mut [u8], at: usize)
 // A packed plane of a workspace, painted into the rows of a picture.
 fn unpack_rows(workspace: &[u8], at: usize, dst: &mut [u8], geometry: Geometry)
     requires { ⌜ Kept (length (now dst)) geometry × (at + geometry .width * geometry .height ≤ length (now workspace)) ⌝ }
-    ensures { λ _. ⌜ now (dst .exit) ≡ painted (part at (geometry .width * geometry .height) (now (workspace .entry))) (geometry .width) (geometry .height) (geometry .stride) (now (dst .entry)) ⌝ }
+    ensures { λ _. ⌜ now (dst .exit) ≡ paintedOn (now (dst .entry)) geometry (part at (geometry .width * geometry .height) (now (workspace .entry))) ⌝ }
 {
     let width = geometry.width;
     let height = geometry.height;
