@@ -1,14 +1,14 @@
 -- The picture of a geometry in a slice, and a destination of a geometry that was painted. Assumes nothing.
 use Prim.Native.Nat.{ℕ, _*_, _<_}
 use native.Mathlib.Omega.{arith}
-use mathlib.Core.Path.{_≡_, sym, ap₂}
+use mathlib.Core.Path.{_≡_, sym, ap, ap₂, _∙_}
 use mathlib.Core.List.{List}
 use lib.ListN.{length, getD}
 use Rattle.image.specs.declared.Geometry.{Geometry}
 use Rattle.image.specs.Layout.{Kept}
 use Rattle.image.specs.LayoutLaws.{row-within}
-use Rattle.image.specs.Plane.{pixel, painted, paintedAt, picture, paintedOn}
-use Rattle.image.specs.PlaneLaws.{length-packed, pixel-packed, packed-is}
+use Rattle.image.specs.Plane.{pixel, packed, painted, paintedAt, picture, paintedOn}
+use Rattle.image.specs.PlaneLaws.{length-packed, pixel-packed, packed-is, packed-again}
 use Rattle.image.specs.PaintLaws.{length-painted, painted-byte, painted-pixel}
 
 -- the picture of a geometry: how many numbers, and each pixel
@@ -19,6 +19,11 @@ module _ (d : List ℕ) (g : Geometry) where
   pub pixel-picture : (x y : ℕ) → x < g .width → y < g .height
       → pixel (picture d g) (g .width) x y ≡ pixel d (g .stride) x y
   pixel-picture = pixel-packed d (g .width) (g .height) (g .stride)
+
+  -- of a packed picture it is all of it
+  pub picture-again : 0 < g .width → g .stride ≡ g .width → length d ≡ g .width * g .height → picture d g ≡ d
+  picture-again W tight n =
+      ap (packed d (g .width) (g .height)) tight ∙ packed-again d (g .width) (g .height) W n
 
 -- a painted destination: its length, and each byte by its place
 module _ (d : List ℕ) (g : Geometry) (p : List ℕ) where

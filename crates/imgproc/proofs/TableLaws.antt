@@ -12,7 +12,8 @@ use Rattle.image.specs.declared.Geometry.{Geometry}
 use Rattle.image.specs.Layout.{Kept, rowLayout, sideLimit}
 use Rattle.image.specs.LayoutLaws.{row-within, row-kept}
 use Rattle.image.specs.Row.{rowIn}
-use Rattle.image.specs.PlaneLaws.{length-part, getD-part, pixel-packed}
+use Rattle.image.specs.PlaneLaws.{length-part, getD-part}
+use Rattle.image.specs.Views.{pixel-picture}
 use Rattle.imgproc.specs.Refusals.{tableEntries}
 use Rattle.imgproc.specs.Sums.{squared, sumTo, boxSum}
 use Rattle.imgproc.specs.SumLaws.{sum-none, sum-more, sum-le, box-top, box-left, box-down, box-le}
@@ -29,11 +30,11 @@ module _ (d : List ℕ) (g : Geometry) (k : Kept (length d) g) (y : ℕ) (Y : y 
   row-pixel x X =
       ap (λ (l : List ℕ). getD l x 0) (e ∙ row-kept d k y Y)
       ∙ getD-part (y * g .stride) (g .width) d (row-within k y Y) x X
-      ∙ sym (pixel-packed d (g .width) (g .height) (g .stride) x y X Y)
+      ∙ sym (pixel-picture d g x y X Y)
 
 -- each pixel of a picture of bytes is a byte
 pub pixel-byte : (d : List ℕ) (g : Geometry) → ((i : ℕ) → getD d i 0 ≤ 255) → (x y : ℕ) → x < g .width → y < g .height → pixelsOf d g x y ≤ 255
-pixel-byte d g byte x y X Y = rw (pixel-packed d (g .width) (g .height) (g .stride) x y X Y) (byte (y * g .stride + x))
+pixel-byte d g byte x y X Y = rw (pixel-picture d g x y X Y) (byte (y * g .stride + x))
 
 -- ---- entries
 

@@ -12,7 +12,7 @@ use borrow.Author.Tests.{ltb-true, leb-true, le-leb}
 use Rattle.image.specs.declared.Geometry.{Geometry}
 use Rattle.image.specs.LayoutLaws.{row-within}
 use Rattle.image.specs.Plane.{pixel, packed, painted, picture}
-use Rattle.image.specs.PlaneLaws.{pixel-plane}
+use Rattle.image.specs.PlaneLaws.{pixel-plane, same-pixels}
 use Rattle.image.specs.PaintLaws.{length-painted, painted-byte, painted-pixel}
 use Rattle.imgproc.specs.declared.reading.ReadingConfig.{ReadingConfig}
 use Rattle.imgproc.specs.declared.reading.ReadingCounts.{ReadingCounts}
@@ -29,7 +29,7 @@ use Rattle.imgproc.specs.Grid.{skipOf}
 use Rattle.imgproc.specs.GridCalls.{gridSettingsCheck}
 use Rattle.imgproc.specs.Sauvola.{thresholdAt, atOrBelow}
 use Rattle.imgproc.specs.Reading.{openedOf, judgedOver, judged, comparisonsOf, readingOf, byteOf, marked, readingSettings, readingRoom, readingCheck, readBy, Reads}
-use Rattle.imgproc.specs.ReadingLaws.{adds-up, comparisons-below, same-pixels}
+use Rattle.imgproc.specs.ReadingLaws.{adds-up, comparisons-below}
 
 chosen : (a b : Bool) → cond a Skipped (cond b Dark Light) ≡ Dark → (a ≡ false) × (b ≡ true)
 chosen true b p = let z : _≡_ {A = ℕ} 0 1 = cc in absurd (omega arith)

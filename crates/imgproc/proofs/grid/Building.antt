@@ -9,7 +9,7 @@ use Rattle.image.specs.declared.Layout.{Layout}
 use Rattle.image.specs.declared.Layout.the-variants.{Valid, Invalid}
 use Rattle.image.specs.Layout.{Kept, layoutOf, refusalOf}
 use Rattle.image.specs.LayoutLaws.{kept-as}
-use Rattle.image.specs.Plane.{packed, overwritten}
+use Rattle.image.specs.Plane.{picture, overwritten}
 use Rattle.imgproc.specs.declared.ImgProcError.{ImgProcError}
 use Rattle.imgproc.specs.declared.ImgProcError.the-variants.{Image}
 use Rattle.imgproc.specs.declared.Check.{Check}
@@ -32,10 +32,10 @@ module _ (src : List ℕ) (s : Geometry) (g : TileThresholdConfig) (ws th sk : L
   rest u = gridSettingsCheck g then gridRoomCheck (tileCount g (u .width) (u .height)) (length ws) (length th) (length sk)
 
   abbrev newThresholds : List ℕ
-  newThresholds = overwritten 0 (thresholds g (s .width) (s .height) (packed src (s .width) (s .height) (s .stride))) th
+  newThresholds = overwritten 0 (thresholds g (s .width) (s .height) (picture src s)) th
 
   abbrev newSkips : List ℕ
-  newSkips = overwritten 0 (skips g (s .width) (s .height) (packed src (s .width) (s .height) (s .stride))) sk
+  newSkips = overwritten 0 (skips g (s .width) (s .height) (picture src s)) sk
 
   -- a check that refuses
   refused : {e : ImgProcError} → check ≡ Refused e → Builds src s g ws th sk (Built·Refused e) ws th sk

@@ -10,8 +10,9 @@ use denote.Ref.{now}
 use Rattle.image.specs.declared.Geometry.{Geometry}
 use Rattle.image.specs.Layout.{Kept, rowLayout}
 use Rattle.image.specs.Row.{rowIn}
-use Rattle.image.specs.Plane.{pixel, packed, plane, part, tabulate, overwritten}
-use Rattle.image.specs.PlaneLaws.{length-tabulate, getD-tabulate, getD-part, pixel-packed, in-plane, plane-same}
+use Rattle.image.specs.Plane.{pixel, picture, plane, part, tabulate, overwritten}
+use Rattle.image.specs.PlaneLaws.{length-tabulate, getD-tabulate, getD-part, in-plane, plane-same}
+use Rattle.image.specs.Views.{pixel-picture}
 use Rattle.image.specs.FillLaws.{Filled, fill-start, fill-same, fill-done, fill-fits, fill-ahead, fill-next, lent-row, row-long, row-pixel}
 use Rattle.imgproc.specs.declared.illumination.BackgroundDivideConfig.{BackgroundDivideConfig}
 use Rattle.imgproc.specs.Division.{quotient, dividedBy}
@@ -133,12 +134,12 @@ same-length c =
     fill-same (a .geometry .width) (a .geometry .height) (value (a .config) (a .geometry) (a .at) (now (a .src)) (now (a .workspace))) (a .at) (now (a .workspace)) (s .pre .1 .1) (c .before .loop .y) (c .before .loop .inv)
 
 -- the plane of these values is the packed source divided by the packed backgrounds
-is-divided : (config : BackgroundDivideConfig) (g : Geometry) (at : ℕ) (src d : List ℕ) → 0 < g .width → at + g .width * g .height ≤ length d → plane (g .width) (g .height) (value config g at src d) ≡ dividedBy config (g .width) (g .height) (packed src (g .width) (g .height) (g .stride)) (part at (g .width * g .height) d)
+is-divided : (config : BackgroundDivideConfig) (g : Geometry) (at : ℕ) (src d : List ℕ) → 0 < g .width → at + g .width * g .height ≤ length d → plane (g .width) (g .height) (value config g at src d) ≡ dividedBy config (g .width) (g .height) (picture src g) (part at (g .width * g .height) d)
 unfolding dividedBy
 is-divided config g at src d W room =
     plane-same (g .width) (g .height) (value config g at src d) _ W
     (λ x y X Y.
-    ap₂ (quotient config) (sym (pixel-packed src (g .width) (g .height) (g .stride) x y X Y))
+    ap₂ (quotient config) (sym (pixel-picture src g x y X Y))
     (sym (getD-part at (g .width * g .height) d room (y * g .width + x) (in-plane (g .width) (g .height) x y X Y))))
 
 returns : tie.Need-returns Inv-loop μ-loop
