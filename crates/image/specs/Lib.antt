@@ -9,6 +9,7 @@ pub mod LayoutLaws
 pub mod PlaneLaws
 pub mod PaintLaws
 pub mod Views
+pub mod RowLaws
 pub mod CopyLaws
 pub mod PaintRows
 pub mod FillLaws

@@ -39,6 +39,11 @@ pub length-plane : (w h : ℕ) (f : ℕ → ℕ → ℕ) → length (plane w h f
 unfolding plane
 length-plane w h f = length-tabulate (λ i. f (i % w) (i / w)) (w * h)
 
+-- a packed picture is tabulated, place by place
+pub plane-tabulated : (w h : ℕ) (f : ℕ → ℕ → ℕ) → plane w h f ≡ tabulate (λ i. f (i % w) (i / w)) (w * h)
+unfolding plane
+plane-tabulated w h f = refl
+
 -- the number at i of a packed picture is its pixel there
 pub getD-plane : (w h : ℕ) (f : ℕ → ℕ → ℕ) (i : ℕ) → i < w * h → getD (plane w h f) i 0 ≡ f (i % w) (i / w)
 unfolding plane
@@ -105,6 +110,17 @@ module _ (at : ℕ) (p d : List ℕ) (fits : at + length p ≤ length d) where
   -- before `at`, from `at` on, and after the numbers of p
   pub overwritten-before : (i : ℕ) → i < at → getD (overwritten at p d) i 0 ≡ getD d i 0
   overwritten-before i t = List·getD-append (take at d) _ 0 i (omega (arith, front)) ∙ getD-take at d i 0 t
+
+  -- a part that lies before what was written is as it was
+  pub part-before : (a n : ℕ) → a + n ≤ at → part a n (overwritten at p d) ≡ part a n d
+  part-before a n t =
+      let long = length-overwritten in
+      let size = length-part a n (overwritten at p d) (omega arith) in
+      ext-getD 0 (part a n (overwritten at p d)) (part a n d) (size ∙ sym (length-part a n d (omega arith)))
+      (λ i l.
+      getD-part a n (overwritten at p d) (omega arith) i (omega arith)
+      ∙ overwritten-before (a + i) (omega arith)
+      ∙ sym (getD-part a n d (omega arith) i (omega arith)))
 
   pub overwritten-within : (i : ℕ) → i < length p → getD (overwritten at p d) (at + i) 0 ≡ getD p i 0
   overwritten-within i t =

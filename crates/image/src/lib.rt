@@ -5,7 +5,7 @@ ghost use Prim.Native.Nat.{_+_, _*_, _≤_};
 ghost use lib.ListN.{length};
 ghost use Rattle.image.specs.Layout.{layoutOf, pixelLayout, rowLayout, refusalOf, numberOf, layoutNumber, Kept};
 ghost use Rattle.image.specs.Pixel.{valueIn, Sets};
-ghost use Rattle.image.specs.Row.{rowIn};
+ghost use Rattle.image.specs.Row.{Hands};
 ghost use Rattle.image.specs.Copy.{Packs, Unpacks, copiedNumber};
 ghost use Rattle.image.specs.Plane.{picture, paintedOn, part, overwritten};
 
@@ -169,7 +169,7 @@ pub fn set(data: &mut [u8], geometry: Geometry, x: usize, y: usize, value: u8) -
 
 // Row y as the caller's own bytes; an empty part where `check_row` refuses.
 pub fn row(data: &[u8], geometry: Geometry, y: usize) -> &[u8]
-    ensures { λ r. ⌜ now r ≡ rowIn (rowLayout (length (now («data» .entry))) geometry y) (now («data» .entry)) y ⌝ }
+    ensures { λ r. ⌜ Hands («data» .entry) geometry y r ⌝ }
 {
     let Layout::Valid(g) = check_row(data.len(), geometry, y) else {
         return &data[0..0];
@@ -181,7 +181,7 @@ pub fn row(data: &[u8], geometry: Geometry, y: usize) -> &[u8]
 
 // Row y of a destination, to write to; an empty part where `check_row` refuses.
 pub fn row_mut(data: &mut [u8], geometry: Geometry, y: usize) -> &mut [u8]
-    ensures { λ r. ⌜ now r ≡ rowIn (rowLayout (length (now («data» .entry))) geometry y) (now («data» .entry)) y ⌝ }
+    ensures { λ r. ⌜ Hands («data» .entry) geometry y r ⌝ }
 {
     let Layout::Valid(g) = check_row(data.len(), geometry, y) else {
         return &mut data[0..0];

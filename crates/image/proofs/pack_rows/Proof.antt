@@ -5,7 +5,8 @@ use Prim.Native.Nat.{_+_, _-_, _*_, _≤_}
 use mathlib.Core.Path.{sym, _∙_}
 use lib.ListN.{length}
 use denote.Ref.{now}
-use Rattle.image.specs.FillLaws.{Filled, fill-start, fill-same, fill-done, fill-fits, fill-next, lent-row, row-long, row-pixel}
+use Rattle.image.specs.FillLaws.{Filled, fill-start, fill-same, fill-done, fill-fits, fill-next, lent-row}
+use Rattle.image.specs.RowLaws.{row-long, row-pixel}
 use Rattle.image.specs.Plane.{pixel, packed}
 use Rattle.image.proofs.pack_rows.Statement.{statement}
 use Rattle.image.proofs.pack_rows.Tie as tie
@@ -60,7 +61,7 @@ copy-row-requires c κs =
     let s = i .before .before .before .before in
     let a = s .args in
     let to = a .at + i .before .loop .y * a .geometry .width in
-    row-long (now (a .src)) (a .geometry) (s .pre .0) (i .before .loop .y) (i .loop-test .taken) (now (c .before .row .result)) (c .before .row .ensures)
+    row-long (now (a .src)) (a .geometry) (s .pre .0) (i .before .loop .y) (i .loop-test .taken) (c .before .row .ensures .bytes)
     ∙ sym (lent-row to (a .geometry .width) (i .before .loop .workspace) (fits i))
 
 add-y : tie.Need-add-y Inv-loop μ-loop
@@ -77,10 +78,10 @@ loop-again c =
     let s = i .before .before .before .before in
     let a = s .args in
     let row = p .copy-row .last .1 .0 in
-    let e = p .copy-row .ensures ∙ r .row .ensures in
+    let e = p .copy-row .ensures ∙ r .row .ensures .bytes in
     fill-next (a .geometry .width) (a .geometry .height) (pixel (now (a .src)) (a .geometry .stride)) (a .at) (now (a .workspace)) (s .pre .1) (i .before .loop .y) (i .before .loop .inv) (i .loop-test .taken) row (s .pre .0 .wide)
-    (row-long (now (a .src)) (a .geometry) (s .pre .0) (i .before .loop .y) (i .loop-test .taken) row e)
-    (row-pixel (now (a .src)) (a .geometry) (s .pre .0) (i .before .loop .y) (i .loop-test .taken) row e)
+    (row-long (now (a .src)) (a .geometry) (s .pre .0) (i .before .loop .y) (i .loop-test .taken) e)
+    (row-pixel (now (a .src)) (a .geometry) (s .pre .0) (i .before .loop .y) (i .loop-test .taken) e)
 
 same-length : tie.Need-same-length Inv-loop μ-loop
 same-length c =
