@@ -4,7 +4,7 @@ use image::Geometry;
 ghost use mathlib.Core.Path.{_≡_};
 ghost use Prim.Native.Nat.{_+_, _-_, _*_, _^_, _≤_, _<_, min, max};
 ghost use lib.ListN.{length, getD};
-ghost use Rattle.image.specs.Layout.{Kept};
+ghost use Rattle.image.specs.Layout.{Kept, sideLimit};
 ghost use Rattle.image.specs.Plane.{pixel};
 ghost use Rattle.imgproc.specs.Reach.{ceiling, low, high};
 ghost use Rattle.imgproc.specs.Grid.{tilesX, tilesY};
@@ -40,10 +40,10 @@ fn greater(a: u8, b: u8) -> u8
     if a < b { b } else { a }
 }
 
-// The numbers of the samples left..right of a row that starts at `at`.
-fn row_numbers(src: &[u8], at: usize, left: usize, right: usize) -> TileNumbers
-    requires { ⌜ (left < right) × (right ≤ left + 4096) × (at + right ≤ length (now src)) ⌝ }
-    ensures { λ r. ⌜ r ≡ lineNumbers (λ x. getD (now (src .entry)) (at + x) 0) left (right - 1) ⌝ }
+// The numbers of the samples left..right of a row.
+fn row_numbers(row: &[u8], left: usize, right: usize) -> TileNumbers
+    requires { ⌜ (left < right) × (right ≤ left + sideLimit) × (right ≤ length (now row)) ⌝ }
+    ensures { λ r. ⌜ r ≡ lineNumbers (λ x. getD (now (row .entry)) x 0) left (right - 1) ⌝ }
 {
     let mut minimum: u8 = 255;
     let mut maximum: u8 = 0;
@@ -51,7 +51,7 @@ fn row_numbers(src: &[u8], at: usize, left: usize, right: usize) -> TileNumbers
     let mut sum_sq: u32 = 0;
     let mut x = left;
     while x < right {
-        let value = src[at + x];
+        let value = row[x];
         minimum = lesser(minimum, value);
         maximum = greater(maximum, value);
         sum += value as u32;
@@ -84,20 +84,20 @@ fn join(a: TileNumbers, b: TileNumbers) -> TileNumbers
 // The numbers of the pixels left..right, top..bottom of a picture.
 fn box_numbers(
     src: &[u8],
-    stride: usize,
+    geometry: Geometry,
     left: usize,
     right: usize,
     top: usize,
     bottom: usize,
 ) -> TileNumbers
-    requires { ⌜ (left < right) × (right ≤ left + 4096) × (top < bottom) × (bottom ≤ top + 4096) × (right ≤ stride) × ((bottom - 1) * stride + right ≤ length (now src)) ⌝ }
-    ensures { λ r. ⌜ r ≡ numbersIn (pixel (now (src .entry)) stride) (record { left = left; right = right - 1; top = top; bottom = bottom - 1 }) ⌝ }
+    requires { ⌜ Kept (length (now src)) geometry × (left < right) × (right ≤ geometry .width) × (top < bottom) × (bottom ≤ geometry .height) ⌝ }
+    ensures { λ r. ⌜ r ≡ numbersIn (pixel (now (src .entry)) (geometry .stride)) (record { left = left; right = right - 1; top = top; bottom = bottom - 1 }) ⌝ }
 {
-    let mut numbers = row_numbers(src, top * stride, left, right);
+    let mut numbers = row_numbers(image::row(src, geometry, top), left, right);
     let mut y = top + 1;
     while y < bottom {
-        let row = row_numbers(src, y * stride, left, right);
-        numbers = join(numbers, row);
+        let next = row_numbers(image::row(src, geometry, y), left, right);
+        numbers = join(numbers, next);
         y += 1;
     }
     numbers
@@ -127,7 +127,7 @@ fn tile_numbers(
     let top = j * config.tile_height;
     let right = tile_end(geometry.width, config.tile_width, i);
     let bottom = tile_end(geometry.height, config.tile_height, j);
-    box_numbers(src, geometry.stride, left, right, top, bottom)
+    box_numbers(src, geometry, left, right, top, bottom)
 }
 
 // The five numbers of a tile, stored from `at` on.
@@ -180,7 +180,7 @@ fn load(workspace: &[u64], at: usize) -> TileNumbers
 
 // The numbers of the tiles from..=to of a tile row, whose first tile stands at `row`, joined.
 fn join_row(workspace: &[u64], row: usize, from: usize, to: usize) -> TileNumbers
-    requires { ⌜ (from ≤ to) × (to < 4096) × SmallRow row to (now workspace) ⌝ }
+    requires { ⌜ (from ≤ to) × (to < sideLimit) × SmallRow row to (now workspace) ⌝ }
     ensures { λ r. ⌜ r ≡ joinOver (λ i. entry (now (workspace .entry)) (row + 5 * i)) from to ⌝ }
 {
     let mut numbers = load(workspace, row + 5 * from);
