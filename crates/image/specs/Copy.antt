@@ -31,12 +31,14 @@ unpackedIn (Refused e) g ws at dst = dst
 unpackedIn WorkspaceTooSmall g ws at dst = dst
 
 -- the contract of `pack`: the source's rows go to the workspace
-pub record Packs (src : List ℕ) (g : Geometry) (at : ℕ) (before : List ℕ) (answer : Copied) (after : List ℕ) : Type 0 where
+pub record Packs (src : List ℕ) (g : Geometry) (at : ℕ) (before : List ℕ) (answer : Copied) (after : List ℕ)
+    : Type 0 where
   pub answers : answer ≡ copiedOf (layoutOf (length src) g) at (length before)
   pub leaves : after ≡ packedIn (copiedOf (layoutOf (length src) g) at (length before)) g src at before
 
 -- the contract of `unpack`: a plane of the workspace goes to the destination's rows
-pub record Unpacks (ws : List ℕ) (at : ℕ) (before : List ℕ) (g : Geometry) (answer : Copied) (after : List ℕ) : Type 0 where
+pub record Unpacks (ws : List ℕ) (at : ℕ) (before : List ℕ) (g : Geometry) (answer : Copied) (after : List ℕ)
+    : Type 0 where
   pub answers : answer ≡ copiedOf (layoutOf (length before) g) at (length ws)
   pub leaves : after ≡ unpackedIn (copiedOf (layoutOf (length before) g) at (length ws)) g ws at before
 

@@ -1,4 +1,5 @@
--- Copies into and out of a workspace that are never refused: the layout is valid and the plane has room. Assumes nothing.
+-- Copies into and out of a workspace that are never refused: the layout is valid and the plane has room.
+-- Assumes nothing.
 use mathlib.Core.Path.{_≡_, sym, ap, ap₂, _∙_}
 use mathlib.Core.List.{List}
 use Prim.Native.Nat.{ℕ, _+_, _*_, _≤_}

@@ -68,7 +68,8 @@ kept-valid {len} {g} k =
     )
 
 -- a side of 0 is refused before all else
-pub no-sides : (len : ℕ) (g : Geometry) → (eqb (g .width) 0 || eqb (g .height) 0) ≡ true → layoutOf len g ≡ Invalid EmptyDimensions
+pub no-sides : (len : ℕ) (g : Geometry) → (eqb (g .width) 0 || eqb (g .height) 0) ≡ true
+    → layoutOf len g ≡ Invalid EmptyDimensions
 unfolding layoutOf
 no-sides len g e = rw e
 
@@ -82,7 +83,8 @@ area-small {len} {g} k = sides-small (g .width) (g .height) (k .small-width) (k 
 -- row y ends within the slice
 pub row-within : {len : ℕ} {g : Geometry} → Kept len g → (y : ℕ) → y < g .height → y * g .stride + g .width ≤ len
 row-within {len} {g} k y t =
-    omega (arith, k .fits, mul-le-mul-right {m = y} {n = g .height - 1} (g .stride) (omega arith), mul-comm (g .stride) (g .height - 1))
+    let rows = mul-le-mul-right {m = y} {n = g .height - 1} (g .stride) (omega arith) in
+    omega (arith, k .fits, mul-comm (g .stride) (g .height - 1))
 
 -- a row of a valid layout, asked for inside
 pub row-asked : {len : ℕ} {g : Geometry} → Kept len g → (y : ℕ) → y < g .height → rowLayout len g y ≡ Valid g
@@ -98,6 +100,8 @@ module _ (len : ℕ) (g v : Geometry) where
   pub row-inside : (y : ℕ) → rowLayout len g y ≡ Valid v → (Kept len g × (g ≡ v)) × (ltb y (g .height) ≡ true)
   row-inside y e = let a = asked-inside (layoutOf len g) (ltb y (g .height)) e in (kept-as len g v (a .0), a .1)
 
-  pub pixel-inside : (x y : ℕ) → pixelLayout len g x y ≡ Valid v → (Kept len g × (g ≡ v)) × ((ltb x (g .width) ≡ true) × (ltb y (g .height) ≡ true))
+  pub pixel-inside : (x y : ℕ) → pixelLayout len g x y ≡ Valid v
+      → (Kept len g × (g ≡ v)) × ((ltb x (g .width) ≡ true) × (ltb y (g .height) ≡ true))
   pixel-inside x y e =
-      let a = asked-inside (layoutOf len g) (ltb x (g .width) && ltb y (g .height)) e in (kept-as len g v (a .0), both _ _ (a .1))
+      let a = asked-inside (layoutOf len g) (ltb x (g .width) && ltb y (g .height)) e in
+      (kept-as len g v (a .0), both _ _ (a .1))

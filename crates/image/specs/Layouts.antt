@@ -9,7 +9,8 @@ use Rattle.image.specs.Layout.{sideLimit, layoutOf, pixelLayout, rowLayo
 -- the layout of a slice of len bytes
 abbrev pub layout : ℕ → ℕ → ℕ → ℕ → ℕ
 unfolding layoutOf
-layout len width height stride = layoutNumber (layoutOf len (record { width = width; height = height; stride = stride }))
+layout len width height stride =
+    layoutNumber (layoutOf len (record { width = width; height = height; stride = stride }))
 
 infix 10 _gives_
 -- a worked layout: what is computed, and the number that is right

@@ -1,7 +1,7 @@
 -- A tabulated list holds what it was tabulated from, and a packed picture its pixels. Assumes nothing.
 use mathlib.Core.Path.{_≡_, refl, sym, ap, ap₂, _∙_}
 use mathlib.Core.List.{List}
-use Prim.Native.Nat.{ℕ, zero, suc, _+_, _-_, _*_, _/_, _%_, _≤_, _<_}
+use Prim.Native.Nat.{ℕ, zero, suc, _+_, _*_, _/_, _%_, _≤_, _<_}
 use native.Mathlib.Nat.{le-of-suc-le-suc, not-suc-le-zero, add-zero, zero-add, mod-lt, div-add-mod', div-lt-iff-lt-mul, mul-comm, mul-le-mul-right, suc-mul}
 use native.Mathlib.Omega.{arith}
 use lib.ListN.{length, getD, take, drop, length-append, length-take, length-drop, List·getD-append}
@@ -50,20 +50,25 @@ unfolding plane
 getD-plane w h f i t = getD-tabulate (λ i. f (i % w) (i / w)) (w * h) i t
 
 pub pixel-plane : (w h : ℕ) (f : ℕ → ℕ → ℕ) (x y : ℕ) → x < w → y < h → pixel (plane w h f) w x y ≡ f x y
-pixel-plane w h f x y X Y = getD-plane w h f (y * w + x) (in-plane w h x y X Y) ∙ ap₂ f (digits-mod y X) (digits-div y X)
+pixel-plane w h f x y X Y =
+    getD-plane w h f (y * w + x) (in-plane w h x y X Y) ∙ ap₂ f (digits-mod y X) (digits-div y X)
 
 -- a list of w × h numbers whose pixels are f's is the packed picture of f
-pub is-plane : (w h : ℕ) (f : ℕ → ℕ → ℕ) (q : List ℕ) → 0 < w → length q ≡ w * h → ((x y : ℕ) → x < w → y < h → pixel q w x y ≡ f x y) → q ≡ plane w h f
+pub is-plane : (w h : ℕ) (f : ℕ → ℕ → ℕ) (q : List ℕ) → 0 < w → length q ≡ w * h
+    → ((x y : ℕ) → x < w → y < h → pixel q w x y ≡ f x y) → q ≡ plane w h f
 is-plane w h f q W l each = ext-getD 0 q (plane w h f) (l ∙ sym (length-plane w h f)) at
   where
     at : (i : ℕ) → i < length q → getD q i 0 ≡ getD (plane w h f) i 0
     at i b =
         let c : i < w * h = omega arith in
         let y : i / w < h = div-lt-iff-lt-mul W .1 (omega (arith, mul-comm w h)) in
-        ap (λ (n : ℕ). getD q n 0) (sym (div-add-mod' i w)) ∙ each (i % w) (i / w) (mod-lt i W) y ∙ sym (getD-plane w h f i c)
+        ap (λ (n : ℕ). getD q n 0) (sym (div-add-mod' i w))
+        ∙ each (i % w) (i / w) (mod-lt i W) y
+        ∙ sym (getD-plane w h f i c)
 
 -- two packed pictures with the same pixels are the same
-pub plane-same : (w h : ℕ) (f g : ℕ → ℕ → ℕ) → 0 < w → ((x y : ℕ) → x < w → y < h → f x y ≡ g x y) → plane w h f ≡ plane w h g
+pub plane-same : (w h : ℕ) (f g : ℕ → ℕ → ℕ) → 0 < w → ((x y : ℕ) → x < w → y < h → f x y ≡ g x y)
+    → plane w h f ≡ plane w h g
 plane-same w h f g W each =
     is-plane w h g (plane w h f) W (length-plane w h f) (λ x y X Y. pixel-plane w h f x y X Y ∙ each x y X Y)
 
@@ -71,7 +76,8 @@ pub length-packed : (d : List ℕ) (w h stride : ℕ) → length (packed d w h s
 unfolding packed
 length-packed d w h stride = length-plane w h (pixel d stride)
 
-pub pixel-packed : (d : List ℕ) (w h stride x y : ℕ) → x < w → y < h → pixel (packed d w h stride) w x y ≡ pixel d stride x y
+pub pixel-packed : (d : List ℕ) (w h stride x y : ℕ) → x < w → y < h
+    → pixel (packed d w h stride) w x y ≡ pixel d stride x y
 unfolding packed
 pixel-packed d w h stride x y X Y = pixel-plane w h (pixel d stride) x y X Y
 
@@ -124,7 +130,9 @@ module _ (at : ℕ) (p d : List ℕ) (fits : at + length p ≤ length d) where
 
   pub overwritten-within : (i : ℕ) → i < length p → getD (overwritten at p d) (at + i) 0 ≡ getD p i 0
   overwritten-within i t =
-      ap (λ (k : ℕ). getD (overwritten at p d) (k + i) 0) (sym front) ∙ getD-append-add (take at d) _ i 0 ∙ List·getD-append p _ 0 i t
+      ap (λ (k : ℕ). getD (overwritten at p d) (k + i) 0) (sym front)
+      ∙ getD-append-add (take at d) _ i 0
+      ∙ List·getD-append p _ 0 i t
 
   pub overwritten-after : (i : ℕ) → getD (overwritten at p d) (at + length p + i) 0 ≡ getD d (at + length p + i) 0
   overwritten-after i =
@@ -137,7 +145,8 @@ module _ (at : ℕ) (p d : List ℕ) (fits : at + length p ≤ length d) where
 pub part-overwritten : (at : ℕ) (p d : List ℕ) → at + length p ≤ length d → part at (length p) (overwritten at p d) ≡ p
 part-overwritten at p d fits =
     let l = length-overwritten at p d fits in
-    ext-getD 0 (part at (length p) (overwritten at p d)) p (length-part at (length p) (overwritten at p d) (omega arith))
-    (λ i t.
     let s = length-part at (length p) (overwritten at p d) (omega arith) in
-    getD-part at (length p) (overwritten at p d) (omega arith) i (omega arith) ∙ overwritten-within at p d fits i (omega arith))
+    ext-getD 0 (part at (length p) (overwritten at p d)) p s
+    (λ i t.
+    getD-part at (length p) (overwritten at p d) (omega arith) i (omega arith)
+    ∙ overwritten-within at p d fits i (omega arith))

@@ -15,8 +15,8 @@ abbrev pub rowIn : Layout → List ℕ → ℕ → List ℕ
 rowIn (Valid g) d y = part (y * g .stride) (g .width) d
 rowIn (Invalid e) d y = []
 
--- where row y stands, of a slice that stands at a block and an offset in it: y × stride bytes further. The empty part of a
--- refused row stands where the slice does
+-- where row y stands, of a slice that stands at a block and an offset in it: y × stride bytes further. The empty part of
+-- a refused row stands where the slice does
 abbrev pub rowAt : Layout → ℕ × ℕ → ℕ → ℕ × ℕ
 rowAt (Valid g) place y = (place .0, y * g .stride + place .1)
 rowAt (Invalid e) place y = place

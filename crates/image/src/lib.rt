@@ -222,7 +222,8 @@ fn pack_rows(src: &[u8], geometry: Geometry, workspace: &mut [u8], at: usize)
 // A packed plane of a workspace, painted into the rows of a picture.
 fn unpack_rows(workspace: &[u8], at: usize, dst: &mut [u8], geometry: Geometry)
     requires { ⌜ Kept (length (now dst)) geometry × (at + geometry .width * geometry .height ≤ length (now workspace)) ⌝ }
-    ensures { λ _. ⌜ now (dst .exit) ≡ paintedOn (now (dst .entry)) geometry (part at (geometry .width * geometry .height) (now (workspace .entry))) ⌝ }
+    ensures { λ _. ⌜ now (dst .exit)
+        ≡ paintedOn (now (dst .entry)) geometry (part at (geometry .width * geometry .height) (now (workspace .entry))) ⌝ }
 {
     let width = geometry.width;
     let height = geometry.height;

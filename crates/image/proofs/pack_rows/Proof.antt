@@ -12,27 +12,38 @@ use Rattle.image.proofs.pack_rows.Statement.{statement}
 use Rattle.image.proofs.pack_rows.Tie as tie
 
 abbrev Inv-loop : tie.InvT-loop
-Inv-loop src geometry workspace₀ at width height y₀ workspace y = Filled (geometry .width) (geometry .height) (pixel src (geometry .stride)) at workspace₀ workspace y
+Inv-loop src geometry workspace₀ at width height y₀ workspace y =
+    Filled (geometry .width) (geometry .height) (pixel src (geometry .stride)) at workspace₀ workspace y
 
 abbrev μ-loop : tie.MeasureT-loop
 μ-loop src geometry workspace₀ at width height y₀ workspace y = height - y
 
 loop-holds : tie.Need-loop-holds Inv-loop μ-loop
-loop-holds c = let a = c .before .before .args in fill-start (a .geometry .width) (a .geometry .height) (pixel (now (a .src)) (a .geometry .stride)) (a .at) (now (a .workspace))
+loop-holds c =
+    let a = c .before .before .args in
+    fill-start (a .geometry .width) (a .geometry .height) (pixel (now (a .src)) (a .geometry .stride)) (a .at) (now (a .workspace))
 
 -- row y lies in the workspace
-fits : (c : tie.In-loop Inv-loop μ-loop) → c .before .before .before .before .args .at + c .before .loop .y * c .before .before .before .before .args .geometry .width + c .before .before .before .before .args .geometry .width ≤ length (c .before .loop .workspace)
+fits : (c : tie.In-loop Inv-loop μ-loop) →
+    let a = c .before .before .before .before .args in a .at + c .before .loop .y * a .geometry .width + a .geometry .width ≤ length (c .before .loop .workspace)
 fits c =
     let s = c .before .before .before .before in
     let a = s .args in
-    fill-fits (a .geometry .width) (a .geometry .height) (pixel (now (a .src)) (a .geometry .stride)) (a .at) (now (a .workspace)) (s .pre .1) (c .before .loop .y) (c .before .loop .inv) (c .loop-test .taken)
+    fill-fits (a .geometry .width) (a .geometry .height) (pixel (now (a .src)) (a .geometry .stride)) (a .at) (now (a .workspace)) (s .pre .1)
+    (c .before .loop .y) (c .before .loop .inv) (c .loop-test .taken)
 
 -- and so does what the workspace was
-fits-before : (c : tie.In-loop Inv-loop μ-loop) → c .before .before .before .before .args .at + c .before .loop .y * c .before .before .before .before .args .geometry .width + c .before .before .before .before .args .geometry .width ≤ length (now (c .before .before .before .before .args .workspace))
+fits-before : (c : tie.In-loop Inv-loop μ-loop) →
+    let a = c .before .before .before .before .args in a .at + c .before .loop .y * a .geometry .width + a .geometry .width ≤ length (now (a .workspace))
 fits-before c =
     let s = c .before .before .before .before in
     let a = s .args in
-    omega (arith, fits c, fill-same (a .geometry .width) (a .geometry .height) (pixel (now (a .src)) (a .geometry .stride)) (a .at) (now (a .workspace)) (s .pre .1) (c .before .loop .y) (c .before .loop .inv))
+    omega (
+      arith,
+      fits c,
+      fill-same (a .geometry .width) (a .geometry .height) (pixel (now (a .src)) (a .geometry .stride)) (a .at) (now (a .workspace)) (s .pre .1)
+          (c .before .loop .y) (c .before .loop .inv),
+    )
 
 mul-to : tie.Need-mul-to Inv-loop μ-loop
 mul-to c = omega (arith, fits-before c)
@@ -79,7 +90,8 @@ loop-again c =
     let a = s .args in
     let row = p .copy-row .last .1 .0 in
     let e = p .copy-row .ensures ∙ r .row .ensures .bytes in
-    fill-next (a .geometry .width) (a .geometry .height) (pixel (now (a .src)) (a .geometry .stride)) (a .at) (now (a .workspace)) (s .pre .1) (i .before .loop .y) (i .before .loop .inv) (i .loop-test .taken) row (s .pre .0 .wide)
+    fill-next (a .geometry .width) (a .geometry .height) (pixel (now (a .src)) (a .geometry .stride)) (a .at) (now (a .workspace)) (s .pre .1)
+    (i .before .loop .y) (i .before .loop .inv) (i .loop-test .taken) row (s .pre .0 .wide)
     (row-long (now (a .src)) (a .geometry) (s .pre .0) (i .before .loop .y) (i .loop-test .taken) e)
     (row-pixel (now (a .src)) (a .geometry) (s .pre .0) (i .before .loop .y) (i .loop-test .taken) e)
 
@@ -87,14 +99,16 @@ same-length : tie.Need-same-length Inv-loop μ-loop
 same-length c =
     let s = c .before .before .before .before in
     let a = s .args in
-    fill-same (a .geometry .width) (a .geometry .height) (pixel (now (a .src)) (a .geometry .stride)) (a .at) (now (a .workspace)) (s .pre .1) (c .before .loop .y) (c .before .loop .inv)
+    fill-same (a .geometry .width) (a .geometry .height) (pixel (now (a .src)) (a .geometry .stride)) (a .at) (now (a .workspace)) (s .pre .1)
+    (c .before .loop .y) (c .before .loop .inv)
 
 returns : tie.Need-returns Inv-loop μ-loop
 unfolding packed
 returns c =
     let s = c .before .before .before .before in
     let a = s .args in
-    fill-done (a .geometry .width) (a .geometry .height) (pixel (now (a .src)) (a .geometry .stride)) (a .at) (now (a .workspace)) (s .pre .1) (c .before .loop .y) (c .before .loop .inv) (c .loop-test .left)
+    fill-done (a .geometry .width) (a .geometry .height) (pixel (now (a .src)) (a .geometry .stride)) (a .at) (now (a .workspace)) (s .pre .1)
+    (c .before .loop .y) (c .before .loop .inv) (c .loop-test .left)
 
 pub pack-rows-spec : {M : Type 1} → statement M
 pack-rows-spec =
