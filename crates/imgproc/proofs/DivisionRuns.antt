@@ -1,5 +1,5 @@
 -- The work of an accepted division: what is packed, closed, divided and painted is the contract's picture; and the ways out of its settings. Assumes nothing.
-use mathlib.Core.Path.{_≡_, refl, sym, ap, ap₂, _∙_, subst}
+use mathlib.Core.Path.{_≡_, sym, ap, ap₂, _∙_}
 use mathlib.Core.List.{List}
 use Prim.Native.Nat.{ℕ, _+_, _*_, _%_, _≤_, _<_}
 use native.Mathlib.Omega.{arith}
@@ -11,10 +11,8 @@ use Rattle.image.specs.Plane.{pixel, picture, painted, part, overwritten}
 use Rattle.image.specs.PlaneLaws.{length-plane, length-overwritten, part-overwritten}
 use Rattle.image.specs.Copy.{Packs, Unpacks}
 use Rattle.imgproc.specs.declared.illumination.BackgroundDivideConfig.{BackgroundDivideConfig}
-use Rattle.imgproc.specs.declared.ImgProcError.{ImgProcError}
 use Rattle.imgproc.specs.declared.ImgProcError.the-variants.{InvalidConfiguration}
 use Rattle.imgproc.specs.declared.Check.the-variants.{Accepted, Refused}
-use Rattle.imgproc.specs.declared.morphology.Compared.the-variants.{Comparisons, Refused as Compared·Refused}
 use Rattle.imgproc.specs.declared.tally.Tally.{Tally}
 use Rattle.imgproc.specs.Morphology.{closed}
 use Rattle.imgproc.specs.Sweeps.{TwiceReady, TwiceMorphed}
