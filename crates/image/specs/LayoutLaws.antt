@@ -2,7 +2,7 @@
 use Prim.Native.Nat.{ℕ, _+_, _-_, _*_, _≤_, _<_}
 use native.Mathlib.Nat.{mul-comm, mul-le-mul, mul-le-mul-right, pos-of-ne-zero, ne-of-gt}
 use native.Mathlib.Omega.{arith}
-use mathlib.Core.Path.{_≡_, refl}
+use mathlib.Core.Path.{_≡_, refl, sym, _∙_}
 use mathlib.Core.Bool.{Bool, true, false, cond, _&&_, _||_}
 use lib.Dec.{ltb, eqb}
 use borrow.Author.Tests.{ltb-false, eqb-false, ne-eqb, le-ltb, lt-ltb}
@@ -66,6 +66,10 @@ kept-valid {len} {g} k =
       le-ltb sideLimit (g .width) (k .small-width),
       le-ltb sideLimit (g .height) (k .small-height),
     )
+
+-- and is not refused
+pub kept-taken : {len : ℕ} {g : Geometry} {e : LumaError} → Kept len g → layoutOf len g ≡ Invalid e → ⊥
+kept-taken {len} {g} {e} k r = never e g (sym r ∙ kept-valid k)
 
 -- a side of 0 is refused before all else
 pub no-sides : (len : ℕ) (g : Geometry) → (eqb (g .width) 0 || eqb (g .height) 0) ≡ true

@@ -7,7 +7,7 @@ use lib.IntN.{pos, _+ℤ_}
 use lib.ListN.{length, getD}
 use Rattle.image.specs.declared.Geometry.{Geometry}
 use Rattle.image.specs.Plane.{tabulate, pixel}
-use Rattle.image.specs.Layout.{sideLimit}
+use Rattle.image.specs.Layout.{sideLimit, areaLimit}
 use Rattle.imgproc.specs.declared.grid.TileThresholdConfig.{TileThresholdConfig}
 use Rattle.imgproc.specs.declared.tiles.TileNumbers.{TileNumbers}
 use Rattle.imgproc.specs.Fold.{Box, bit, foldOver}
@@ -83,13 +83,13 @@ pub record Gathers (src : List ℕ) (s : Geometry) (g : TileThresholdConfig) (at
   pub before-it : (i : ℕ) → i < at → getD after i 0 ≡ getD before i 0
   pub after-it : (i : ℕ) → at + 5 * (tilesX g (s .width) * tilesY g (s .height)) ≤ i → getD after i 0 ≡ getD before i 0
 
--- numbers of at most 2^24 bytes
+-- numbers of at most as many bytes as a picture has
 pub record Small (n : TileNumbers) : Type 0 where
   pub minimum : n .minimum < 256
   pub maximum : n .maximum < 256
-  pub sum : n .sum ≤ 4278190080
-  pub sumSq : n .«sum_sq» ≤ 1090938470400
-  pub count : n .count ≤ 16777216
+  pub sum : n .sum ≤ 255 * areaLimit
+  pub sumSq : n .«sum_sq» ≤ 65025 * areaLimit
+  pub count : n .count ≤ areaLimit
 
 -- and whose minimum is at most their maximum
 pub record Proper (n : TileNumbers) : Type 0 where

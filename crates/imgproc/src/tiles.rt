@@ -1,6 +1,7 @@
 // The five numbers of each tile, gathered into a u64 workspace from an offset on, and joined over a neighbourhood.
 use crate::grid::TileThresholdConfig;
 use image::Geometry;
+use image::Layout;
 ghost use mathlib.Core.Path.{_≡_};
 ghost use Prim.Native.Nat.{_+_, _-_, _*_, _^_, _≤_, _<_, min, max};
 ghost use lib.ListN.{length, getD};
@@ -142,8 +143,8 @@ fn store(workspace: &mut [u64], at: usize, numbers: TileNumbers)
     workspace[at + 4] = numbers.count;
 }
 
-// The numbers of every tile of a picture, from `at` on, tile row after tile row.
-pub(crate) fn gather(
+// The numbers of every tile, once the layout is known to be valid.
+fn gather_tiles(
     src: &[u8],
     geometry: Geometry,
     config: TileThresholdConfig,
@@ -162,6 +163,24 @@ pub(crate) fn gather(
         store(workspace, at + 5 * t, numbers);
         t += 1;
     }
+}
+
+// The numbers of every tile of a picture, from `at` on, tile row after tile row. The layout is tested once here, so that
+// the compiler takes the tests of `image::row` out of the loops.
+pub(crate) fn gather(
+    src: &[u8],
+    geometry: Geometry,
+    config: TileThresholdConfig,
+    workspace: &mut [u64],
+    at: usize,
+)
+    requires { ⌜ Kept (length (now src)) geometry × Sized config (geometry .width) (geometry .height) × (at + 5 * (tilesX config (geometry .width) * tilesY config (geometry .height)) ≤ length (now workspace)) ⌝ }
+    ensures { λ _. ⌜ Gathers (now (src .entry)) geometry config at (now (workspace .entry)) (now (workspace .exit)) ⌝ }
+{
+    let Layout::Valid(_) = image::validate_layout(src.len(), geometry) else {
+        return;
+    };
+    gather_tiles(src, geometry, config, workspace, at);
 }
 
 // The five numbers that stand from `at` on.

@@ -6,7 +6,8 @@ use native.Mathlib.Omega.{arith}
 use lib.ListN.{length}
 use Rattle.imgproc.specs.declared.tiles.TileNumbers.{TileNumbers}
 use Rattle.imgproc.specs.Tiles.{tileEntry, joined, joinOver, SmallRow}
-use Rattle.imgproc.proofs.tiles.Joins.{join-one, join-next, Under, small-under, join-under, under-more}
+use Rattle.image.specs.Layout.{sideLimit}
+use Rattle.imgproc.proofs.tiles.Joins.{join-one, join-next, Under, most, rowMost, small-under, join-under, under-more}
 use borrow.Author.Needs.{needs}
 use Rattle.imgproc.proofs.tiles.join_rows.Statement.{statement}
 use Rattle.imgproc.proofs.tiles.join_rows.Tie as tie
@@ -30,11 +31,11 @@ within s j t =
 row-small : (s : tie.Start Inv-loop μ-loop) (j : ℕ) → j ≤ s .args .last → SmallRow (s .args .at + 5 * (j * s .args .tiles-x)) (s .args .to) (s .args .workspace .now)
 row-small s j t = record { room = within s j t; each = λ i h. s .pre .3 .each i j (omega (arith, s .pre .1)) (omega arith) }
 
-row-under : (s : tie.Start Inv-loop μ-loop) (j : ℕ) → j ≤ s .args .last → Under 4468483974758400 (row s j)
+row-under : (s : tie.Start Inv-loop μ-loop) (j : ℕ) → j ≤ s .args .last → Under rowMost (row s j)
 unfolding row
 row-under s j t =
-    under-more 1090938470400 (suc (s .args .to - s .args .from)) 4096 (omega (arith, s .pre .1, s .pre .3 .across))
-    (join-under 1090938470400 (λ a. tileEntry (s .args .at) (s .args .tiles-x) (s .args .workspace .now) a j) (s .args .from) (s .args .to) (s .pre .0) (λ i p q. small-under (row-small s j t .each i q)))
+    under-more most (suc (s .args .to - s .args .from)) sideLimit (omega (arith, s .pre .1, s .pre .3 .across))
+    (join-under most (λ a. tileEntry (s .args .at) (s .args .tiles-x) (s .args .workspace .now) a j) (s .args .from) (s .args .to) (s .pre .0) (λ i p q. small-under (row-small s j t .each i q)))
 
 mul-join-row : tie.Need-mul-join-row Inv-loop μ-loop
 mul-join-row c = omega (arith, within (c .before) (c .before .args .first) (c .before .pre .2))
@@ -76,9 +77,9 @@ unfolding row
 join-requires c κs =
     let s = c .before .before .before .before .before in
     let l = c .before .before .loop in
-    let u = subst (Under (suc (l .j - 1 - s .args .first) * 4468483974758400)) (sym (l .inv .2)) (join-under 4468483974758400 (row s) (s .args .first) (l .j - 1) (omega arith) (λ j p q. row-under s j (omega arith))) in
-    let v = subst (Under 4468483974758400) (sym (c .join-row2 .ensures)) (row-under s (l .j) (c .before .loop-test .taken)) in
-    let few : l .j - s .args .first ≤ 4095 = omega (arith, s .pre .3 .down, c .before .loop-test .taken) in
+    let u = subst (Under (suc (l .j - 1 - s .args .first) * rowMost)) (sym (l .inv .2)) (join-under rowMost (row s) (s .args .first) (l .j - 1) (omega arith) (λ j p q. row-under s j (omega arith))) in
+    let v = subst (Under rowMost) (sym (c .join-row2 .ensures)) (row-under s (l .j) (c .before .loop-test .taken)) in
+    let few : l .j - s .args .first < sideLimit = omega (arith, s .pre .3 .down, c .before .loop-test .taken) in
     (omega (arith, u .sum, v .sum), omega (arith, u .sumSq, v .sumSq), omega (arith, u .count, v .count))
 
 add-j-2 : tie.Need-add-j-2 Inv-loop μ-loop
