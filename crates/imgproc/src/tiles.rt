@@ -9,7 +9,8 @@ ghost use Rattle.image.specs.Layout.{Kept, sideLimit};
 ghost use Rattle.image.specs.Plane.{pixel};
 ghost use Rattle.imgproc.specs.Reach.{ceiling, low, high};
 ghost use Rattle.imgproc.specs.Grid.{tilesX, tilesY};
-ghost use Rattle.imgproc.specs.Tiles.{Sized, numbersIn, lineNumbers, tile, joined, joinOver, entry, Stores, Gathers, SmallRow, SmallGrid, joinedRows, joinedAround};
+ghost use Rattle.imgproc.specs.Tiles.{Sized, numbersIn, lineNumbers, tile, joined, joinOver, entry, Stores, GatherReady, Gathers};
+ghost use Rattle.imgproc.specs.Tiles.{SmallRow, SmallGrid, joinedRows, joinedAround};
 
 // The numbers of a set of pixels.
 pub struct TileNumbers {
@@ -91,8 +92,10 @@ fn box_numbers(
     top: usize,
     bottom: usize,
 ) -> TileNumbers
-    requires { ⌜ Kept (length (now src)) geometry × (left < right) × (right ≤ geometry .width) × (top < bottom) × (bottom ≤ geometry .height) ⌝ }
-    ensures { λ r. ⌜ r ≡ numbersIn (pixel (now (src .entry)) (geometry .stride)) (record { left = left; right = right - 1; top = top; bottom = bottom - 1 }) ⌝ }
+    requires { ⌜ Kept (length (now src)) geometry × (left < right) × (right ≤ geometry .width)
+        × (top < bottom) × (bottom ≤ geometry .height) ⌝ }
+    ensures { λ r. ⌜ r ≡ numbersIn (pixel (now (src .entry)) (geometry .stride))
+        (record { left = left; right = right - 1; top = top; bottom = bottom - 1 }) ⌝ }
 {
     let mut numbers = row_numbers(image::row(src, geometry, top), left, right);
     let mut y = top + 1;
@@ -121,8 +124,10 @@ fn tile_numbers(
     i: usize,
     j: usize,
 ) -> TileNumbers
-    requires { ⌜ Kept (length (now src)) geometry × Sized config (geometry .width) (geometry .height) × (i < tilesX config (geometry .width)) × (j < tilesY config (geometry .height)) ⌝ }
-    ensures { λ r. ⌜ r ≡ numbersIn (pixel (now (src .entry)) (geometry .stride)) (tile config (geometry .width) (geometry .height) i j) ⌝ }
+    requires { ⌜ Kept (length (now src)) geometry × Sized config (geometry .width) (geometry .height)
+        × (i < tilesX config (geometry .width)) × (j < tilesY config (geometry .height)) ⌝ }
+    ensures { λ r. ⌜ r ≡ numbersIn (pixel (now (src .entry)) (geometry .stride))
+        (tile config (geometry .width) (geometry .height) i j) ⌝ }
 {
     let left = i * config.tile_width;
     let top = j * config.tile_height;
@@ -151,7 +156,7 @@ fn gather_tiles(
     workspace: &mut [u64],
     at: usize,
 )
-    requires { ⌜ Kept (length (now src)) geometry × Sized config (geometry .width) (geometry .height) × (at + 5 * (tilesX config (geometry .width) * tilesY config (geometry .height)) ≤ length (now workspace)) ⌝ }
+    requires { ⌜ GatherReady (now src) geometry config at (now workspace) ⌝ }
     ensures { λ _. ⌜ Gathers (now (src .entry)) geometry config at (now (workspace .entry)) (now (workspace .exit)) ⌝ }
 {
     let tiles_x = tiles(geometry.width, config.tile_width);
@@ -174,7 +179,7 @@ pub(crate) fn gather(
     workspace: &mut [u64],
     at: usize,
 )
-    requires { ⌜ Kept (length (now src)) geometry × Sized config (geometry .width) (geometry .height) × (at + 5 * (tilesX config (geometry .width) * tilesY config (geometry .height)) ≤ length (now workspace)) ⌝ }
+    requires { ⌜ GatherReady (now src) geometry config at (now workspace) ⌝ }
     ensures { λ _. ⌜ Gathers (now (src .entry)) geometry config at (now (workspace .entry)) (now (workspace .exit)) ⌝ }
 {
     let Layout::Valid(_) = image::validate_layout(src.len(), geometry) else {
@@ -185,7 +190,8 @@ pub(crate) fn gather(
 
 // The five numbers that stand from `at` on.
 fn load(workspace: &[u64], at: usize) -> TileNumbers
-    requires { ⌜ (at + 5 ≤ length (now workspace)) × (entry (now workspace) at .minimum < 256) × (entry (now workspace) at .maximum < 256) ⌝ }
+    requires { ⌜ (at + 5 ≤ length (now workspace))
+        × (entry (now workspace) at .minimum < 256) × (entry (now workspace) at .maximum < 256) ⌝ }
     ensures { λ r. ⌜ r ≡ entry (now (workspace .entry)) at ⌝ }
 {
     TileNumbers {

@@ -12,7 +12,9 @@ use Rattle.imgproc.proofs.Folds.{Joining, running, running-none, runnin
 
 -- numbers are equal field by field
 pub same : (a b : TileNumbers) → a .minimum ≡ b .minimum → a .maximum ≡ b .maximum → a .sum ≡ b .sum → a .«sum_sq» ≡ b .«sum_sq» → a .count ≡ b .count → a ≡ b
-same a b p q r s t = let e : numbers (a .minimum) (a .maximum) (a .sum) (a .«sum_sq») (a .count) ≡ numbers (b .minimum) (b .maximum) (b .sum) (b .«sum_sq») (b .count) = cc in e
+same a b p q r s t =
+    let e : numbers (a .minimum) (a .maximum) (a .sum) (a .«sum_sq») (a .count) ≡ numbers (b .minimum) (b .maximum) (b .sum) (b .«sum_sq») (b .count) = cc in
+    e
   where
     numbers : ℕ → ℕ → ℕ → ℕ → ℕ → TileNumbers
     numbers m M s q c = record { minimum = m; maximum = M; sum = s; «sum_sq» = q; count = c }
@@ -64,7 +66,8 @@ module _ {f : ℕ → ℕ} {left x m M s q : ℕ} (c : Scanned f left x m M s q)
     sumSq-small = omega (arith, c .sumSq, running-small 65025 (λ k. f k * f k) left square (x - left))
 
     -- at the end of the row they are the row's
-    pub scanned-all : (right : ℕ) → right ≤ x → x ≤ right → left < right → record { minimum = m; maximum = M; sum = s; «sum_sq» = q; count = right - left } ≡ lineNumbers f left (right - 1)
+    pub scanned-all : (right : ℕ) → right ≤ x → x ≤ right → left < right
+        → record { minimum = m; maximum = M; sum = s; «sum_sq» = q; count = right - left } ≡ lineNumbers f left (right - 1)
     scanned-all right p r l =
         same _ _
         (c .minimum ∙ running-all min 255 f left (omega (arith, bytes left)) x right p r l)
@@ -105,7 +108,9 @@ one-row f l r y =
     (sym (fold-one _+_ (λ k. foldOver _+_ (λ x. f x k * f x k) l r) y))
     (sym (fold-one _+_ (λ k. foldOver _+_ (λ x. 1) l r) y))
 
-pub below : (f : ℕ → ℕ → ℕ) (l r t m b : ℕ) → t ≤ m → m < b → numbersIn f (record { left = l; right = r; top = t; bottom = b }) ≡ joined (numbersIn f (record { left = l; right = r; top = t; bottom = m })) (numbersIn f (record { left = l; right = r; top = m + 1; bottom = b }))
+pub below : (f : ℕ → ℕ → ℕ) (l r t m b : ℕ) → t ≤ m → m < b
+    → numbersIn f (record { left = l; right = r; top = t; bottom = b })
+    ≡ joined (numbersIn f (record { left = l; right = r; top = t; bottom = m })) (numbersIn f (record { left = l; right = r; top = m + 1; bottom = b }))
 below f l r t m b p q =
     same _ _
     (box-below min least-joins f l r t m b p q)
@@ -114,7 +119,9 @@ below f l r t m b p q =
     (box-below _+_ sums-join (λ x y. f x y * f x y) l r t m b p q)
     (box-below _+_ sums-join (λ x y. 1) l r t m b p q)
 
-pub beside : (f : ℕ → ℕ → ℕ) (l m r t b : ℕ) → l ≤ m → m < r → t ≤ b → numbersIn f (record { left = l; right = r; top = t; bottom = b }) ≡ joined (numbersIn f (record { left = l; right = m; top = t; bottom = b })) (numbersIn f (record { left = m + 1; right = r; top = t; bottom = b }))
+pub beside : (f : ℕ → ℕ → ℕ) (l m r t b : ℕ) → l ≤ m → m < r → t ≤ b
+    → numbersIn f (record { left = l; right = r; top = t; bottom = b })
+    ≡ joined (numbersIn f (record { left = l; right = m; top = t; bottom = b })) (numbersIn f (record { left = m + 1; right = r; top = t; bottom = b }))
 beside f l m r t b p q s =
     same _ _
     (box-beside min least-joins f l m r t b p q s)

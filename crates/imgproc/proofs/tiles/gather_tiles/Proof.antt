@@ -12,7 +12,10 @@ use Rattle.imgproc.proofs.tiles.gather_tiles.Statement.{statement}
 use Rattle.imgproc.proofs.tiles.gather_tiles.Tie as tie
 
 abbrev Inv-loop : tie.InvT-loop
-Inv-loop src geometry config workspace₀ at tiles-x tiles-y total t₀ workspace t = (t ≤ total) × StoredTo (λ k. numbersIn (pixel src (geometry .stride)) (tile config (geometry .width) (geometry .height) (k % tilesX config (geometry .width)) (k / tilesX config (geometry .width)))) at t workspace₀ workspace
+Inv-loop src geometry config workspace₀ at tiles-x tiles-y total t₀ workspace t =
+    let across = tilesX config (geometry .width) in
+    (t ≤ total)
+    × StoredTo (λ k. numbersIn (pixel src (geometry .stride)) (tile config (geometry .width) (geometry .height) (k % across) (k / across))) at t workspace₀ workspace
 
 abbrev μ-loop : tie.MeasureT-loop
 μ-loop src geometry config workspace₀ at tiles-x tiles-y total t₀ workspace t = total - t
@@ -30,34 +33,62 @@ loop-holds : tie.Need-loop-holds Inv-loop μ-loop
 loop-holds c = (omega arith, stored-none _ _ _)
 
 rem-tile-numbers : tie.Need-rem-tile-numbers Inv-loop μ-loop
-rem-tile-numbers c = let k = c .before .before in some (k .before .before .before .before .pre .1) (k .before .tiles .ensures) (k .tiles2 .ensures)
+rem-tile-numbers c =
+    let k = c .before .before in
+    let z = k .before .before .before .before .pre .1 in
+    let X = k .before .tiles .ensures in
+    let Y = k .tiles2 .ensures in
+    some z X Y
 
 div-tile-numbers : tie.Need-div-tile-numbers Inv-loop μ-loop
-div-tile-numbers c = let k = c .before .before in some (k .before .before .before .before .pre .1) (k .before .tiles .ensures) (k .tiles2 .ensures)
+div-tile-numbers c =
+    let k = c .before .before in
+    let z = k .before .before .before .before .pre .1 in
+    let X = k .before .tiles .ensures in
+    let Y = k .tiles2 .ensures in
+    some z X Y
 
 tile-numbers-requires : tie.Need-tile-numbers-requires Inv-loop μ-loop
 tile-numbers-requires c κs =
     let k = c .before .before in
     let s = k .before .before .before .before in
-    (s .pre .0, s .pre .1, column (k .before .before .before .before .pre .1) (k .before .tiles .ensures) (k .tiles2 .ensures) (c .before .loop .t), row (k .before .before .before .before .pre .1) (k .before .tiles .ensures) (k .tiles2 .ensures) (c .before .loop .t) (c .loop-test .taken))
+    let z = k .before .before .before .before .pre .1 in
+    let X = k .before .tiles .ensures in
+    let Y = k .tiles2 .ensures in
+    (s .pre .0, s .pre .1, column z X Y (c .before .loop .t), row z X Y (c .before .loop .t) (c .loop-test .taken))
 
 mul-store : tie.Need-mul-store Inv-loop μ-loop
-mul-store c = let k = c .before .before .before .before in omega (arith, few (k .before .before .before .before .pre .1) (k .before .tiles .ensures) (k .tiles2 .ensures), c .before .before .loop-test .taken)
+mul-store c =
+    let k = c .before .before .before .before in
+    let z = k .before .before .before .before .pre .1 in
+    let X = k .before .tiles .ensures in
+    let Y = k .tiles2 .ensures in
+    omega (arith, few z X Y, c .before .before .loop-test .taken)
 
 add-store : tie.Need-add-store Inv-loop μ-loop
 add-store c =
     let k = c .before .before .before .before in
-    omega (arith, few (k .before .before .before .before .pre .1) (k .before .tiles .ensures) (k .tiles2 .ensures), total (k .before .before .before .before .pre .1) (k .before .tiles .ensures) (k .tiles2 .ensures), c .before .before .loop-test .taken, k .before .before .before .before .pre .2)
+    let z = k .before .before .before .before .pre .1 in
+    let X = k .before .tiles .ensures in
+    let Y = k .tiles2 .ensures in
+    omega (arith, few z X Y, total z X Y, c .before .before .loop-test .taken, k .before .before .before .before .pre .2)
 
 store-requires : tie.Need-store-requires Inv-loop μ-loop
 store-requires c κs =
     let k = c .before .before .before .before in
-    omega (arith, total (k .before .before .before .before .pre .1) (k .before .tiles .ensures) (k .tiles2 .ensures), c .before .before .loop-test .taken, k .before .before .before .before .pre .2, c .before .before .before .loop .inv .1 .long)
+    let z = k .before .before .before .before .pre .1 in
+    let X = k .before .tiles .ensures in
+    let Y = k .tiles2 .ensures in
+    omega (arith, total z X Y, c .before .before .loop-test .taken, k .before .before .before .before .pre .2, c .before .before .before .loop .inv .1 .long)
 
 add-t : tie.Need-add-t Inv-loop μ-loop
 add-t c =
     let i = c .before .before .before .before .before in
-    let k = i .before .before in omega (arith, few (k .before .before .before .before .pre .1) (k .before .tiles .ensures) (k .tiles2 .ensures), i .loop-test .taken)
+    let k = i .before .before in
+    let z = k .before .before .before .before .pre .1 in
+    let X = k .before .tiles .ensures in
+    let Y = k .tiles2 .ensures in
+    omega (arith, few z X Y, i .loop-test .taken)
 
 loop-less : tie.Need-loop-less Inv-loop μ-loop
 loop-less c = search needs
@@ -69,8 +100,12 @@ loop-again c =
     let l = c .before .before .before .before .before .before .loop in
     let e =
     c .before .before .before .before .tile-numbers .ensures
-    ∙ ap (λ (n : ℕ). numbersIn (pixel (s .src .now) (s .geometry .stride)) (tile (s .config) (s .geometry .width) (s .geometry .height) (l .t % n) (l .t / n))) (k .before .tiles .ensures) in
-    (omega (arith, c .before .before .before .before .before .loop-test .taken), stored-more _ _ (l .t) _ (l .workspace) _ _ (l .inv .1) e (c .before .before .store .ensures))
+    ∙ ap
+    (λ (n : ℕ). numbersIn (pixel (s .src .now) (s .geometry .stride)) (tile (s .config) (s .geometry .width) (s .geometry .height) (l .t % n) (l .t / n)))
+    (k .before .tiles .ensures) in (
+      omega (arith, c .before .before .before .before .before .loop-test .taken),
+      stored-more _ _ (l .t) _ (l .workspace) _ _ (l .inv .1) e (c .before .before .store .ensures),
+    )
 
 same-length : tie.Need-same-length Inv-loop μ-loop
 same-length c = search needs
@@ -80,10 +115,13 @@ returns c =
     let k = c .before .before in
     let s = k .before .before .before .before in
     let l = c .before .loop in
+    let z = k .before .before .before .before .pre .1 in
+    let X = k .before .tiles .ensures in
+    let Y = k .tiles2 .ensures in
     gathered-all (s .args .src .now) (s .args .geometry) (s .args .config) (s .args .at) (l .t) _ (l .workspace)
     (λ i. omega (arith, k .before .before .before .shared-slice-known .given i))
     (s .pre .2)
-    (omega (arith, total (k .before .before .before .before .pre .1) (k .before .tiles .ensures) (k .tiles2 .ensures), l .inv .0, c .loop-test .left))
+    (omega (arith, total z X Y, l .inv .0, c .loop-test .left))
     (l .inv .1)
 
 pub gather-tiles-spec : {M : Type 1} → statement M

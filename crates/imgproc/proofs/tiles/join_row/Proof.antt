@@ -56,7 +56,8 @@ unfolding entries
 join-requires c κs =
     let s = c .before .before .before .before .before in
     let l = c .before .before .loop in
-    let u = subst (Under (suc (l .i - 1 - s .args .from) * most)) (sym (l .inv .2)) (join-under most (entries s) (s .args .from) (l .i - 1) (omega arith) (λ i p q. small-under (s .pre .2 .each i (omega arith)))) in
+    let u = subst (Under (suc (l .i - 1 - s .args .from) * most)) (sym (l .inv .2))
+    (join-under most (entries s) (s .args .from) (l .i - 1) (omega arith) (λ i p q. small-under (s .pre .2 .each i (omega arith)))) in
     let v = subst (Under most) (sym (c .load2 .ensures)) (small-under (s .pre .2 .each (l .i) (c .before .loop-test .taken))) in
     let few : l .i - s .args .from ≤ sideLimit = omega (arith, s .pre .1) in
     (omega (arith, u .sum, v .sum), omega (arith, u .sumSq, v .sumSq), omega (arith, u .count, v .count))
@@ -72,8 +73,14 @@ unfolding entries
 loop-again c =
     let s = c .before .before .before .before .before .before in
     let l = c .before .before .before .loop in
-    let e : l .i + 1 - 1 ≡ l .i = omega arith in
-    (omega arith, omega arith, c .join .ensures ∙ ap₂ joined (l .inv .2) (c .before .load2 .ensures) ∙ join-next (entries s) (s .args .from) (l .i) (l .inv .0) ∙ ap (joinOver (entries s) (s .args .from)) (sym e))
+    let e : l .i + 1 - 1 ≡ l .i = omega arith in (
+      omega arith,
+      omega arith,
+      c .join .ensures
+          ∙ ap₂ joined (l .inv .2) (c .before .load2 .ensures)
+          ∙ join-next (entries s) (s .args .from) (l .i) (l .inv .0)
+          ∙ ap (joinOver (entries s) (s .args .from)) (sym e),
+    )
 
 returns : tie.Need-returns Inv-loop μ-loop
 unfolding entries

@@ -20,10 +20,12 @@ bytes : (c : tie.After-shared-slice-known Inv-loop μ-loop) (k : ℕ) → getD (
 bytes c k = omega (arith, c .shared-slice-known .given k)
 
 -- the sample at hand, and the sums before it
-here : (c : tie.After-greater Inv-loop μ-loop) → (c .before .before .before .before .loop .sum ≤ 1044225) × (c .before .before .before .before .loop .sum-sq ≤ 266277375)
+here : (c : tie.After-greater Inv-loop μ-loop)
+    → (c .before .before .before .before .loop .sum ≤ 1044225) × (c .before .before .before .before .loop .sum-sq ≤ 266277375)
 here c =
     let l = c .before .before .before .before .loop in
-    let s = c .before .before .before .before .before in (omega (arith, sum-small (l .inv .2) (l .inv .0) (bytes s)), omega (arith, sumSq-small (l .inv .2) (l .inv .0) (bytes s)))
+    let s = c .before .before .before .before .before in
+    (omega (arith, sum-small (l .inv .2) (l .inv .0) (bytes s)), omega (arith, sumSq-small (l .inv .2) (l .inv .0) (bytes s)))
 
 square : (v : ℕ) → v < 256 → v * v ≤ 65025
 square v t = let a : v ≤ 255 = omega arith in mul-le-mul a a
@@ -66,7 +68,8 @@ loop-less c = search needs
 
 loop-again : tie.Need-loop-again Inv-loop μ-loop
 loop-again c =
-    let l = c .before .before .before .before .loop in (omega arith, omega arith, scanned-more (l .inv .2) (l .inv .0) (c .before .lesser .ensures) (c .greater .ensures))
+    let l = c .before .before .before .before .loop in
+    (omega arith, omega arith, scanned-more (l .inv .2) (l .inv .0) (c .before .lesser .ensures) (c .greater .ensures))
 
 cast-t16 : tie.Need-cast-t16 Inv-loop μ-loop
 cast-t16 c = let l = c .before .loop in omega (arith, sum-small (l .inv .2) (l .inv .0) (bytes (c .before .before)))
@@ -79,7 +82,9 @@ sub-t18 c = search needs
 
 returns : tie.Need-returns Inv-loop μ-loop
 returns c =
-    let l = c .before .loop in scanned-all (l .inv .2) (l .inv .0) (bytes (c .before .before)) (c .before .before .before .args .right) (c .loop-test .left) (l .inv .1) (omega (arith, c .before .before .before .pre))
+    let l = c .before .loop in
+    scanned-all (l .inv .2) (l .inv .0) (bytes (c .before .before))
+    (c .before .before .before .args .right) (c .loop-test .left) (l .inv .1) (omega (arith, c .before .before .before .pre))
 
 pub row-numbers-spec : {M : Type 1} → statement M
 row-numbers-spec =
