@@ -10,8 +10,8 @@ use lib.ListN.{length}
 use borrow.Author.Tests.{le-ltb, eq-eqb, eqb-false}
 use Rattle.image.specs.declared.Geometry.{Geometry}
 use Rattle.image.specs.declared.LumaError.the-variants.{EmptyDimensions}
-use Rattle.image.specs.Layout.{Kept, layoutOf}
-use Rattle.image.specs.LayoutLaws.{kept-valid, neither}
+use Rattle.image.specs.Layout.{Kept}
+use Rattle.image.specs.LayoutLaws.{kept-valid, neither, no-sides}
 use Rattle.image.specs.Plane.{packed, painted}
 use Rattle.image.specs.PlaneLaws.{packed-again}
 use Rattle.imgproc.specs.declared.Check.{Check}
@@ -61,8 +61,7 @@ module _ (w h : ℕ) (W : 0 < w) (H : 0 < h) (ww : w ≤ 60) (hh : h ≤ 60) whe
 
 -- a zero side is refused before all else
 none : (w h pixels dst bytes words : ℕ) → empty w h ≡ true → readingCheck pixels (tight w h) dst (tight w h) settings bytes words ≡ Refused (Image EmptyDimensions)
-unfolding layoutOf
-none w h pixels dst bytes words e = rw e
+none w h pixels dst bytes words e = rw (no-sides pixels (tight w h) e)
 
 -- ---- one answer for each input
 

@@ -1,9 +1,11 @@
 -- A place that was handed out lies in the slice; and what the pixel and row calls answer, from the layout l that they hold. Assumes nothing.
-use Prim.Native.Nat.{ℕ, _+_, _*_, _≤_, _<_}
+use Prim.Native.Nat.{ℕ, _+_, _-_, _*_, _≤_, _<_}
+use native.Mathlib.Nat.{add-sub-cancel-left, zero-add}
 use native.Mathlib.Omega.{arith}
 use mathlib.Core.Path.{_≡_, sym, ap, _∙_}
 use mathlib.Core.List.{List, []}
 use lib.ListN.{length, set}
+use denote.Ref.{RefT, now, ptr}
 use borrow.Author.Tests.{ltb-true}
 use Rattle.image.specs.declared.Geometry.{Geometry}
 use Rattle.image.specs.declared.LumaError.{LumaError}
@@ -15,7 +17,7 @@ use Rattle.image.specs.Layout.{pixelLayout, rowLayout, refusalOf}
 use Rattle.image.specs.LayoutLaws.{row-within, row-inside, pixel-inside}
 use Rattle.image.specs.Pixel.{valueIn, writtenIn, bytesIn, Sets}
 use Rattle.image.specs.Plane.{pixel, part}
-use Rattle.image.specs.Row.{rowIn}
+use Rattle.image.specs.Row.{rowIn, rowAt, Hands}
 
 module _ (len : ℕ) (g : Geometry) {v : Geometry} {l : Layout} where
   pub row-place : (y : ℕ) → l ≡ rowLayout len g y → l ≡ Valid v → y * v .stride + v .width ≤ len
@@ -46,9 +48,23 @@ module _ (d : List ℕ) (g : Geometry) {l : Layout} where
     pub set-done : (b : ℕ) {v : Geometry} → l ≡ Valid v → Sets d g x y b Done (set d (y * v .stride + x) b)
     set-done b i = record { answers = ap writtenIn (sym i ∙ is); leaves = ap (λ (k : Layout). bytesIn k d x y b) (sym i ∙ is) }
 
-  module _ (y : ℕ) (is : l ≡ rowLayout (length d) g y) where
-    pub row-empty : {e : LumaError} → l ≡ Invalid e → [] ≡ rowIn (rowLayout (length d) g y) d y
-    row-empty i = ap (λ (k : Layout). rowIn k d y) (sym i ∙ is)
+-- the part that is handed out, by its bytes and its place
+module _ (d : RefT (List ℕ)) (g : Geometry) (y : ℕ) {l : Layout} (is : l ≡ rowLayout (length (now d)) g y) {r : RefT (List ℕ)} where
+  pub row-empty : {e : LumaError} → l ≡ Invalid e → now r ≡ [] → ptr r ≡ (ptr d .0, 0 + ptr d .1) → Hands d g y r
+  row-empty i b p = record {
+    bytes = b ∙ ap (λ (k : Layout). rowIn k (now d) y) (sym i ∙ is);
+    place = p ∙ ap (λ (n : ℕ). (ptr d .0, n)) (zero-add (ptr d .1)) ∙ ap (λ (k : Layout). rowAt k (ptr d) y) (sym i ∙ is);
+  }
 
-    pub row-found : {v : Geometry} → l ≡ Valid v → part (y * v .stride) (v .width) d ≡ rowIn (rowLayout (length d) g y) d y
-    row-found i = ap (λ (k : Layout). rowIn k d y) (sym i ∙ is)
+  pub row-found :
+      {v : Geometry}
+      → l ≡ Valid v
+      → now r ≡ part (y * v .stride) (y * v .stride + v .width - y * v .stride) (now d)
+      → ptr r ≡ (ptr d .0, y * v .stride + ptr d .1)
+      → Hands d g y r
+  row-found {v} i b p =
+      let e = add-sub-cancel-left (y * v .stride) (v .width) in
+      record {
+        bytes = b ∙ ap (λ (n : ℕ). part (y * v .stride) n (now d)) e ∙ ap (λ (k : Layout). rowIn k (now d) y) (sym i ∙ is);
+        place = p ∙ ap (λ (k : Layout). rowAt k (ptr d) y) (sym i ∙ is);
+      }

@@ -1,5 +1,5 @@
 -- The ways out of `pack` and `unpack`, from the layout l that the code holds. Assumes nothing.
-use Prim.Native.Nat.{ℕ, _+_, _-_, _*_, _≤_, _<_}
+use Prim.Native.Nat.{ℕ, _+_, _*_, _≤_, _<_}
 use native.Mathlib.Omega.{arith}
 use mathlib.Core.Path.{_≡_, sym, ap, _∙_, subst}
 use mathlib.Core.List.{List}
@@ -39,8 +39,12 @@ module _ (len : ℕ) (g : Geometry) (at room : ℕ) {l : Layout} (is : l ≡ lay
     copied-done t = sym (rw (le-ltb room (at + v .width * v .height) t)) ∙ there
 
 -- a call that gives the right answer and leaves what that answer says keeps its contract
-pub packs : (src : List ℕ) (g : Geometry) (at : ℕ) (before : List ℕ) {answer : Copied} {after : List ℕ} → answer ≡ copiedOf (layoutOf (length src) g) at (length before) → after ≡ packedIn answer g src at before → Packs src g at before answer after
+pub packs : (src : List ℕ) (g : Geometry) (at : ℕ) (before : List ℕ) {answer : Copied} {after : List ℕ}
+    → answer ≡ copiedOf (layoutOf (length src) g) at (length before)
+    → after ≡ packedIn answer g src at before → Packs src g at before answer after
 packs src g at before e f = record { answers = e; leaves = f ∙ ap (λ (k : Copied). packedIn k g src at before) e }
 
-pub unpacks : (ws : List ℕ) (at : ℕ) (before : List ℕ) (g : Geometry) {answer : Copied} {after : List ℕ} → answer ≡ copiedOf (layoutOf (length before) g) at (length ws) → after ≡ unpackedIn answer g ws at before → Unpacks ws at before g answer after
+pub unpacks : (ws : List ℕ) (at : ℕ) (before : List ℕ) (g : Geometry) {answer : Copied} {after : List ℕ}
+    → answer ≡ copiedOf (layoutOf (length before) g) at (length ws)
+    → after ≡ unpackedIn answer g ws at before → Unpacks ws at before g answer after
 unpacks ws at before g e f = record { answers = e; leaves = f ∙ ap (λ (k : Copied). unpackedIn k g ws at before) e }

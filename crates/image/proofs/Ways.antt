@@ -54,17 +54,37 @@ module _ (len : ℕ) (g : Geometry) where
             pub too-wide : sideLimit < g .width → Invalid SideTooLarge ≡ layoutOf len g
             unfolding layoutOf
             too-wide w =
-                simp (ne-eqb (g .width) 0 a, ne-eqb (g .height) 0 b, le-ltb (g .stride) (g .width) s, le-ltb len (neededLength g) enough, lt-ltb sideLimit (g .width) w)
+                simp (
+                  ne-eqb (g .width) 0 a,
+                  ne-eqb (g .height) 0 b,
+                  le-ltb (g .stride) (g .width) s,
+                  le-ltb len (neededLength g) enough,
+                  lt-ltb sideLimit (g .width) w,
+                )
 
             pub too-high : g .width ≤ sideLimit → sideLimit < g .height → Invalid SideTooLarge ≡ layoutOf len g
             unfolding layoutOf
             too-high w h =
-                simp (ne-eqb (g .width) 0 a, ne-eqb (g .height) 0 b, le-ltb (g .stride) (g .width) s, le-ltb len (neededLength g) enough, le-ltb sideLimit (g .width) w, lt-ltb sideLimit (g .height) h)
+                simp (
+                  ne-eqb (g .width) 0 a,
+                  ne-eqb (g .height) 0 b,
+                  le-ltb (g .stride) (g .width) s,
+                  le-ltb len (neededLength g) enough,
+                  le-ltb sideLimit (g .width) w,
+                  lt-ltb sideLimit (g .height) h,
+                )
 
             pub fits : g .width ≤ sideLimit → g .height ≤ sideLimit → Valid g ≡ layoutOf len g
             unfolding layoutOf
             fits w h =
-                simp (ne-eqb (g .width) 0 a, ne-eqb (g .height) 0 b, le-ltb (g .stride) (g .width) s, le-ltb len (neededLength g) enough, le-ltb sideLimit (g .width) w, le-ltb sideLimit (g .height) h)
+                simp (
+                  ne-eqb (g .width) 0 a,
+                  ne-eqb (g .height) 0 b,
+                  le-ltb (g .stride) (g .width) s,
+                  le-ltb len (neededLength g) enough,
+                  le-ltb sideLimit (g .width) w,
+                  le-ltb sideLimit (g .height) h,
+                )
 
 -- the ways out of a place asked for by number, from the layout l that the code holds
 module _ (len : ℕ) (g : Geometry) {l : Layout} (is : l ≡ layoutOf len g) where

@@ -1,4 +1,5 @@
--- A loop that writes a packed plane of a workspace row by row: what it keeps, and one law for each answer that it asks. Assumes nothing.
+-- A loop that writes a packed plane of a workspace row by row: what it keeps, and one law for each answer that it asks.
+-- Assumes nothing.
 use Prim.Native.Nat.{ℕ, _+_, _-_, _*_, _≤_, _<_}
 use native.Mathlib.Nat.{mul-comm, mul-le-mul-right, suc-mul, add-sub-cancel-left}
 use native.Mathlib.Omega.{arith}
@@ -6,12 +7,8 @@ use mathlib.Core.Path.{_≡_, sym, ap, _∙_}
 use mathlib.Core.List.{List}
 use lib.ListN.{length, getD}
 use borrow.Rule.Slice.PartMut.{putMid}
-use Rattle.image.specs.declared.Geometry.{Geometry}
-use Rattle.image.specs.Layout.{Kept, rowLayout}
-use Rattle.image.specs.LayoutLaws.{row-within, row-kept}
-use Rattle.image.specs.Row.{rowIn}
-use Rattle.image.specs.Plane.{pixel, plane, part, overwritten}
-use Rattle.image.specs.PlaneLaws.{length-plane, length-part, getD-part, length-overwritten, overwritten-after}
+use Rattle.image.specs.Plane.{plane, part, overwritten}
+use Rattle.image.specs.PlaneLaws.{length-plane, length-part, length-overwritten, overwritten-after}
 use Rattle.image.specs.PaintLaws.{put-part, plane-start, plane-more}
 
 -- row y of a packed plane lies in it
@@ -26,17 +23,6 @@ put-row a w l r long = put-part a (a + w) l r (omega arith) (long ∙ sym (add-s
 pub lent-row : (a w : ℕ) (l : List ℕ) → a + w ≤ length l → length (part a (a + w - a) l) ≡ w
 lent-row a w l fits = rw (add-sub-cancel-left a w) (length-part a w l fits)
 
--- the rows of a picture, as `row` hands them out
-module _ (src : List ℕ) (g : Geometry) (k : Kept (length src) g) (y : ℕ) (t : y < g .height) (r : List ℕ) (e : r ≡ rowIn (rowLayout (length src) g y) src y) where
-  row-is : r ≡ part (y * g .stride) (g .width) src
-  row-is = e ∙ row-kept src k y t
-
-  pub row-long : length r ≡ g .width
-  row-long = ap length row-is ∙ length-part (y * g .stride) (g .width) src (row-within k y t)
-
-  pub row-pixel : (x : ℕ) → x < g .width → getD r x 0 ≡ pixel src (g .stride) x y
-  row-pixel x u = ap (λ (z : List ℕ). getD z x 0) row-is ∙ getD-part (y * g .stride) (g .width) src (row-within k y t) x u
-
 -- the workspace l holds the first y rows of the plane of f, from `at` on, and is else as d
 pub record Filled (w h : ℕ) (f : ℕ → ℕ → ℕ) (at : ℕ) (d l : List ℕ) (y : ℕ) : Type 0 where
   pub upto : y ≤ h
@@ -48,7 +34,9 @@ module _ (w h : ℕ) (f : ℕ → ℕ → ℕ) (at : ℕ) (d : List ℕ) where
 
   module _ (room : at + w * h ≤ length d) {l : List ℕ} (y : ℕ) (o : Filled w h f at d l y) where
     written : at + length (plane w y f) ≤ length d
-    written = let u = o .upto in omega (arith, length-plane w y f, mul-comm w y, mul-comm w h, mul-le-mul-right {m = y} {n = h} w u)
+    written =
+        let u = o .upto in
+        omega (arith, length-plane w y f, mul-comm w y, mul-comm w h, mul-le-mul-right {m = y} {n = h} w u)
 
     pub fill-same : length l ≡ length d
     fill-same = ap length (o .is) ∙ length-overwritten at (plane w y f) d written
@@ -72,7 +60,8 @@ module _ (w h : ℕ) (f : ℕ → ℕ → ℕ) (at : ℕ) (d : List ℕ) where
           ∙ overwritten-after at (plane w y f) d written x
           ∙ ap (λ (n : ℕ). getD d n 0) e
 
-      pub fill-next : (r : List ℕ) → 0 < w → length r ≡ w → ((x : ℕ) → x < w → getD r x 0 ≡ f x y) → Filled w h f at d (putMid (at + y * w) (at + y * w + w - (at + y * w)) l r) (y + 1)
+      pub fill-next : (r : List ℕ) → 0 < w → length r ≡ w → ((x : ℕ) → x < w → getD r x 0 ≡ f x y)
+          → Filled w h f at d (putMid (at + y * w) (at + y * w + w - (at + y * w)) l r) (y + 1)
       fill-next r W long each = record {
         upto = omega arith;
         is =

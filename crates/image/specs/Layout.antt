@@ -14,6 +14,10 @@ use Rattle.image.specs.Answers.{Condition, Answer, accepted, refused}
 abbrev pub sideLimit : ℕ
 sideLimit = 4096
 
+-- the most pixels
+abbrev pub areaLimit : ℕ
+areaLimit = sideLimit * sideLimit
+
 -- the length that a slice needs: the last row needs no padding
 abbrev pub neededLength : Geometry → ℕ
 neededLength g = g .stride * (g .height - 1) + g .width

@@ -2,20 +2,16 @@
 use Prim.Native.Nat.{ℕ, _+_, _-_, _*_, _≤_, _<_}
 use native.Mathlib.Nat.{mul-comm, mul-le-mul, mul-le-mul-right, pos-of-ne-zero, ne-of-gt}
 use native.Mathlib.Omega.{arith}
-use mathlib.Core.Path.{_≡_, refl, ap}
+use mathlib.Core.Path.{_≡_, refl, sym, _∙_}
 use mathlib.Core.Bool.{Bool, true, false, cond, _&&_, _||_}
-use mathlib.Core.List.{List}
 use lib.Dec.{ltb, eqb}
-use lib.ListN.{length}
 use borrow.Author.Tests.{ltb-false, eqb-false, ne-eqb, le-ltb, lt-ltb}
 use Rattle.image.specs.declared.Geometry.{Geometry}
 use Rattle.image.specs.declared.LumaError.{LumaError}
-use Rattle.image.specs.declared.LumaError.the-variants.{OutsidePicture}
+use Rattle.image.specs.declared.LumaError.the-variants.{EmptyDimensions, OutsidePicture}
 use Rattle.image.specs.declared.Layout.{Layout}
 use Rattle.image.specs.declared.Layout.the-variants.{Valid, Invalid}
-use Rattle.image.specs.Layout.{Kept, neededLength, layoutOf, askedFor, pixelLayout, rowLayout, sideLimit}
-use Rattle.image.specs.Row.{rowIn}
-use Rattle.image.specs.Plane.{part}
+use Rattle.image.specs.Layout.{Kept, neededLength, layoutOf, askedFor, pixelLayout, rowLayout, sideLimit, areaLimit}
 
 -- a choice whose first answer is not the one at hand came to its second
 passed : {A : Type 0} (b : Bool) (a x v : A) → (a ≡ v → ⊥) → cond b a x ≡ v → (b ≡ false) × (x ≡ v)
@@ -71,22 +67,32 @@ kept-valid {len} {g} k =
       le-ltb sideLimit (g .height) (k .small-height),
     )
 
--- a picture has at most 2^24 pixels
-pub area-small : {len : ℕ} {g : Geometry} → Kept len g → g .width * g .height ≤ 16777216
-area-small {len} {g} k = mul-le-mul (k .small-width) (k .small-height)
+-- and is not refused
+pub kept-taken : {len : ℕ} {g : Geometry} {e : LumaError} → Kept len g → layoutOf len g ≡ Invalid e → ⊥
+kept-taken {len} {g} {e} k r = never e g (sym r ∙ kept-valid k)
+
+-- a side of 0 is refused before all else
+pub no-sides : (len : ℕ) (g : Geometry) → (eqb (g .width) 0 || eqb (g .height) 0) ≡ true
+    → layoutOf len g ≡ Invalid EmptyDimensions
+unfolding layoutOf
+no-sides len g e = rw e
+
+-- two sides within the limit bound an area, and so do those of a picture
+pub sides-small : (a b : ℕ) → a ≤ sideLimit → b ≤ sideLimit → a * b ≤ areaLimit
+sides-small a b A B = mul-le-mul {n₂ = sideLimit} {m₂ = sideLimit} A B
+
+pub area-small : {len : ℕ} {g : Geometry} → Kept len g → g .width * g .height ≤ areaLimit
+area-small {len} {g} k = sides-small (g .width) (g .height) (k .small-width) (k .small-height)
 
 -- row y ends within the slice
 pub row-within : {len : ℕ} {g : Geometry} → Kept len g → (y : ℕ) → y < g .height → y * g .stride + g .width ≤ len
 row-within {len} {g} k y t =
-    omega (arith, k .fits, mul-le-mul-right {m = y} {n = g .height - 1} (g .stride) (omega arith), mul-comm (g .stride) (g .height - 1))
+    let rows = mul-le-mul-right {m = y} {n = g .height - 1} (g .stride) (omega arith) in
+    omega (arith, k .fits, mul-comm (g .stride) (g .height - 1))
 
 -- a row of a valid layout, asked for inside
 pub row-asked : {len : ℕ} {g : Geometry} → Kept len g → (y : ℕ) → y < g .height → rowLayout len g y ≡ Valid g
 row-asked {len} {g} k y t = rw (kept-valid k, lt-ltb y (g .height) t)
-
--- is the row's own bytes
-pub row-kept : (d : List ℕ) {g : Geometry} → Kept (length d) g → (y : ℕ) → y < g .height → rowIn (rowLayout (length d) g y) d y ≡ part (y * g .stride) (g .width) d
-row-kept d {g} k y t = ap (λ (l : Layout). rowIn l d y) (row-asked k y t)
 
 -- a place that was handed out lies in a valid layout
 module _ (len : ℕ) (g v : Geometry) where
@@ -98,6 +104,8 @@ module _ (len : ℕ) (g v : Geometry) where
   pub row-inside : (y : ℕ) → rowLayout len g y ≡ Valid v → (Kept len g × (g ≡ v)) × (ltb y (g .height) ≡ true)
   row-inside y e = let a = asked-inside (layoutOf len g) (ltb y (g .height)) e in (kept-as len g v (a .0), a .1)
 
-  pub pixel-inside : (x y : ℕ) → pixelLayout len g x y ≡ Valid v → (Kept len g × (g ≡ v)) × ((ltb x (g .width) ≡ true) × (ltb y (g .height) ≡ true))
+  pub pixel-inside : (x y : ℕ) → pixelLayout len g x y ≡ Valid v
+      → (Kept len g × (g ≡ v)) × ((ltb x (g .width) ≡ true) × (ltb y (g .height) ≡ true))
   pixel-inside x y e =
-      let a = asked-inside (layoutOf len g) (ltb x (g .width) && ltb y (g .height)) e in (kept-as len g v (a .0), both _ _ (a .1))
+      let a = asked-inside (layoutOf len g) (ltb x (g .width) && ltb y (g .height)) e in
+      (kept-as len g v (a .0), both _ _ (a .1))

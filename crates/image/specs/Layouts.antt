@@ -2,14 +2,15 @@
 use mathlib.Core.Path.{_≡_, refl}
 use mathlib.Core.Bool.{cond}
 use mathlib.Core.List.{List, [], _∷_}
-use Prim.Native.Nat.{ℕ, suc}
+use Prim.Native.Nat.{ℕ, suc, _+_}
 use lib.Dec.{eqb}
-use Rattle.image.specs.Layout.{layoutOf, pixelLayout, rowLayout, layoutNumber}
+use Rattle.image.specs.Layout.{sideLimit, layoutOf, pixelLayout, rowLayout, layoutNumber}
 
 -- the layout of a slice of len bytes
 abbrev pub layout : ℕ → ℕ → ℕ → ℕ → ℕ
 unfolding layoutOf
-layout len width height stride = layoutNumber (layoutOf len (record { width = width; height = height; stride = stride }))
+layout len width height stride =
+    layoutNumber (layoutOf len (record { width = width; height = height; stride = stride }))
 
 infix 10 _gives_
 -- a worked layout: what is computed, and the number that is right
@@ -35,10 +36,10 @@ layouts =
     -- one row needs no stride
     (layout 1 1 1 18446744073709551615 gives 0) ∷
     -- a long side in a short slice is short first
-    (layout 4999 5000 1 5000 gives 3) ∷
-    (layout 5000 5000 1 5000 gives 4) ∷
-    (layout 4096 4096 1 4096 gives 0) ∷
-    (layout 4097 1 4097 1 gives 4) ∷
+    (layout sideLimit (sideLimit + 1) 1 (sideLimit + 1) gives 3) ∷
+    (layout (sideLimit + 1) (sideLimit + 1) 1 (sideLimit + 1) gives 4) ∷
+    (layout sideLimit sideLimit 1 sideLimit gives 0) ∷
+    (layout (sideLimit + 1) 1 (sideLimit + 1) 1 gives 4) ∷
     -- outside a layout that is valid, and of one that is not
     (layoutNumber (pixelLayout 6 (record { width = 2; height = 2; stride = 4 }) 1 1) gives 0) ∷
     (layoutNumber (pixelLayout 6 (record { width = 2; height = 2; stride = 4 }) 2 0) gives 9) ∷

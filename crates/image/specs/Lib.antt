@@ -9,5 +9,8 @@ pub mod Layouts
 pub mod LayoutLaws
 pub mod PlaneLaws
 pub mod PaintLaws
+pub mod Views
+pub mod RowLaws
+pub mod CopyLaws
 pub mod PaintRows
 pub mod FillLaws

@@ -1,4 +1,5 @@
--- A loop that paints a destination row by row, through parts that are lent to a call: what it keeps, and one law for each answer that it asks. Assumes nothing.
+-- A loop that paints a destination row by row, through parts that are lent to a call: what it keeps, and one law for each
+-- answer that it asks. Assumes nothing.
 use Prim.Native.Nat.{ℕ, _+_, _-_, _*_, _≤_, _<_}
 use native.Mathlib.Omega.{arith}
 use mathlib.Core.Path.{_≡_, sym, ap, _∙_}
@@ -54,5 +55,6 @@ module _ (p : List ℕ) (w h st : ℕ) (d : List ℕ) where
       }
 
 -- row y of a destination with the picture's sides
-pub row-within-as : {len w h : ℕ} {g : Geometry} → Kept len g → g .width ≡ w → g .height ≡ h → (y : ℕ) → y < h → y * g .stride + w ≤ len
+pub row-within-as : {len w h : ℕ} {g : Geometry} → Kept len g → g .width ≡ w → g .height ≡ h → (y : ℕ) → y < h
+    → y * g .stride + w ≤ len
 row-within-as k a b y t = rw (← a) (row-within k y (rw (← b) at t))

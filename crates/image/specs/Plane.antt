@@ -47,7 +47,8 @@ unfoldable pub mapFrom : (ℕ → ℕ → ℕ) → ℕ → List ℕ → List ℕ
 mapFrom g k [] = []
 mapFrom g k (b ∷ bs) = g k b ∷ mapFrom g (suc k) bs
 
--- the byte at i of a painted destination that held b: pixel (i % stride, i / stride) of the packed picture p where that is a pixel, else b
+-- the byte at i of a painted destination that held b: pixel (i % stride, i / stride) of the packed picture p where that
+-- is a pixel, else b
 abbrev pub paintedAt : List ℕ → ℕ → ℕ → ℕ → ℕ → ℕ → ℕ
 paintedAt p w h stride i b = cond (ltb (i % stride) w && ltb (i / stride) h) (pixel p w (i % stride) (i / stride)) b
 
@@ -55,3 +56,7 @@ paintedAt p w h stride i b = cond (ltb (i % stride) w && ltb (i / stride) h) (pi
 unfoldable pub painted : List ℕ → ℕ → ℕ → ℕ → List ℕ → List ℕ
 unfolding mapFrom
 painted p w h stride d = mapFrom (paintedAt p w h stride) 0 d
+
+-- a destination of a geometry after a call: the packed picture p in its rows
+abbrev pub paintedOn : List ℕ → Geometry → List ℕ → List ℕ
+paintedOn d g p = painted p (g .width) (g .height) (g .stride) d

@@ -1,7 +1,7 @@
 -- A tabulated list holds what it was tabulated from, and a packed picture its pixels. Assumes nothing.
 use mathlib.Core.Path.{_≡_, refl, sym, ap, ap₂, _∙_}
 use mathlib.Core.List.{List}
-use Prim.Native.Nat.{ℕ, zero, suc, _+_, _-_, _*_, _/_, _%_, _≤_, _<_}
+use Prim.Native.Nat.{ℕ, zero, suc, _+_, _*_, _/_, _%_, _≤_, _<_}
 use native.Mathlib.Nat.{le-of-suc-le-suc, not-suc-le-zero, add-zero, zero-add, mod-lt, div-add-mod', div-lt-iff-lt-mul, mul-comm, mul-le-mul-right, suc-mul}
 use native.Mathlib.Omega.{arith}
 use lib.ListN.{length, getD, take, drop, length-append, length-take, length-drop, List·getD-append}
@@ -39,26 +39,36 @@ pub length-plane : (w h : ℕ) (f : ℕ → ℕ → ℕ) → length (plane w h f
 unfolding plane
 length-plane w h f = length-tabulate (λ i. f (i % w) (i / w)) (w * h)
 
+-- a packed picture is tabulated, place by place
+pub plane-tabulated : (w h : ℕ) (f : ℕ → ℕ → ℕ) → plane w h f ≡ tabulate (λ i. f (i % w) (i / w)) (w * h)
+unfolding plane
+plane-tabulated w h f = refl
+
 -- the number at i of a packed picture is its pixel there
 pub getD-plane : (w h : ℕ) (f : ℕ → ℕ → ℕ) (i : ℕ) → i < w * h → getD (plane w h f) i 0 ≡ f (i % w) (i / w)
 unfolding plane
 getD-plane w h f i t = getD-tabulate (λ i. f (i % w) (i / w)) (w * h) i t
 
 pub pixel-plane : (w h : ℕ) (f : ℕ → ℕ → ℕ) (x y : ℕ) → x < w → y < h → pixel (plane w h f) w x y ≡ f x y
-pixel-plane w h f x y X Y = getD-plane w h f (y * w + x) (in-plane w h x y X Y) ∙ ap₂ f (digits-mod y X) (digits-div y X)
+pixel-plane w h f x y X Y =
+    getD-plane w h f (y * w + x) (in-plane w h x y X Y) ∙ ap₂ f (digits-mod y X) (digits-div y X)
 
 -- a list of w × h numbers whose pixels are f's is the packed picture of f
-pub is-plane : (w h : ℕ) (f : ℕ → ℕ → ℕ) (q : List ℕ) → 0 < w → length q ≡ w * h → ((x y : ℕ) → x < w → y < h → pixel q w x y ≡ f x y) → q ≡ plane w h f
+pub is-plane : (w h : ℕ) (f : ℕ → ℕ → ℕ) (q : List ℕ) → 0 < w → length q ≡ w * h
+    → ((x y : ℕ) → x < w → y < h → pixel q w x y ≡ f x y) → q ≡ plane w h f
 is-plane w h f q W l each = ext-getD 0 q (plane w h f) (l ∙ sym (length-plane w h f)) at
   where
     at : (i : ℕ) → i < length q → getD q i 0 ≡ getD (plane w h f) i 0
     at i b =
         let c : i < w * h = omega arith in
         let y : i / w < h = div-lt-iff-lt-mul W .1 (omega (arith, mul-comm w h)) in
-        ap (λ (n : ℕ). getD q n 0) (sym (div-add-mod' i w)) ∙ each (i % w) (i / w) (mod-lt i W) y ∙ sym (getD-plane w h f i c)
+        ap (λ (n : ℕ). getD q n 0) (sym (div-add-mod' i w))
+        ∙ each (i % w) (i / w) (mod-lt i W) y
+        ∙ sym (getD-plane w h f i c)
 
 -- two packed pictures with the same pixels are the same
-pub plane-same : (w h : ℕ) (f g : ℕ → ℕ → ℕ) → 0 < w → ((x y : ℕ) → x < w → y < h → f x y ≡ g x y) → plane w h f ≡ plane w h g
+pub plane-same : (w h : ℕ) (f g : ℕ → ℕ → ℕ) → 0 < w → ((x y : ℕ) → x < w → y < h → f x y ≡ g x y)
+    → plane w h f ≡ plane w h g
 plane-same w h f g W each =
     is-plane w h g (plane w h f) W (length-plane w h f) (λ x y X Y. pixel-plane w h f x y X Y ∙ each x y X Y)
 
@@ -66,14 +76,26 @@ pub length-packed : (d : List ℕ) (w h stride : ℕ) → length (packed d w h s
 unfolding packed
 length-packed d w h stride = length-plane w h (pixel d stride)
 
-pub pixel-packed : (d : List ℕ) (w h stride x y : ℕ) → x < w → y < h → pixel (packed d w h stride) w x y ≡ pixel d stride x y
+pub pixel-packed : (d : List ℕ) (w h stride x y : ℕ) → x < w → y < h
+    → pixel (packed d w h stride) w x y ≡ pixel d stride x y
 unfolding packed
 pixel-packed d w h stride x y X Y = pixel-plane w h (pixel d stride) x y X Y
 
+-- w × h numbers that are the pixels of a strided picture are that picture, packed
+pub packed-is : (d : List ℕ) (w h stride : ℕ) (p : List ℕ) → 0 < w → length p ≡ w * h
+    → ((x y : ℕ) → x < w → y < h → pixel p w x y ≡ pixel d stride x y) → packed d w h stride ≡ p
+unfolding packed
+packed-is d w h stride p W l each = sym (is-plane w h (pixel d stride) p W l each)
+
 -- a packed picture of w × h numbers, packed, is itself
 pub packed-again : (p : List ℕ) (w h : ℕ) → 0 < w → length p ≡ w * h → packed p w h w ≡ p
+packed-again p w h W l = packed-is p w h w p W l (λ x y X Y. refl)
+
+-- two strided pictures with the same pixels are one when packed, whatever their strides, padding and tails
+pub same-pixels : (w h : ℕ) (a b : List ℕ) (sa sb : ℕ) → 0 < w
+    → ((x y : ℕ) → x < w → y < h → pixel a sa x y ≡ pixel b sb x y) → packed a w h sa ≡ packed b w h sb
 unfolding packed
-packed-again p w h W l = sym (is-plane w h (pixel p w) p W l (λ x y X Y. refl))
+same-pixels w h a b sa sb W each = plane-same w h (pixel a sa) (pixel b sb) W each
 
 -- ---- parts of a list, and a part replaced
 
@@ -95,9 +117,22 @@ module _ (at : ℕ) (p d : List ℕ) (fits : at + length p ≤ length d) where
   pub overwritten-before : (i : ℕ) → i < at → getD (overwritten at p d) i 0 ≡ getD d i 0
   overwritten-before i t = List·getD-append (take at d) _ 0 i (omega (arith, front)) ∙ getD-take at d i 0 t
 
+  -- a part that lies before what was written is as it was
+  pub part-before : (a n : ℕ) → a + n ≤ at → part a n (overwritten at p d) ≡ part a n d
+  part-before a n t =
+      let long = length-overwritten in
+      let size = length-part a n (overwritten at p d) (omega arith) in
+      ext-getD 0 (part a n (overwritten at p d)) (part a n d) (size ∙ sym (length-part a n d (omega arith)))
+      (λ i l.
+      getD-part a n (overwritten at p d) (omega arith) i (omega arith)
+      ∙ overwritten-before (a + i) (omega arith)
+      ∙ sym (getD-part a n d (omega arith) i (omega arith)))
+
   pub overwritten-within : (i : ℕ) → i < length p → getD (overwritten at p d) (at + i) 0 ≡ getD p i 0
   overwritten-within i t =
-      ap (λ (k : ℕ). getD (overwritten at p d) (k + i) 0) (sym front) ∙ getD-append-add (take at d) _ i 0 ∙ List·getD-append p _ 0 i t
+      ap (λ (k : ℕ). getD (overwritten at p d) (k + i) 0) (sym front)
+      ∙ getD-append-add (take at d) _ i 0
+      ∙ List·getD-append p _ 0 i t
 
   pub overwritten-after : (i : ℕ) → getD (overwritten at p d) (at + length p + i) 0 ≡ getD d (at + length p + i) 0
   overwritten-after i =
@@ -110,7 +145,8 @@ module _ (at : ℕ) (p d : List ℕ) (fits : at + length p ≤ length d) where
 pub part-overwritten : (at : ℕ) (p d : List ℕ) → at + length p ≤ length d → part at (length p) (overwritten at p d) ≡ p
 part-overwritten at p d fits =
     let l = length-overwritten at p d fits in
-    ext-getD 0 (part at (length p) (overwritten at p d)) p (length-part at (length p) (overwritten at p d) (omega arith))
-    (λ i t.
     let s = length-part at (length p) (overwritten at p d) (omega arith) in
-    getD-part at (length p) (overwritten at p d) (omega arith) i (omega arith) ∙ overwritten-within at p d fits i (omega arith))
+    ext-getD 0 (part at (length p) (overwritten at p d)) p s
+    (λ i t.
+    getD-part at (length p) (overwritten at p d) (omega arith) i (omega arith)
+    ∙ overwritten-within at p d fits i (omega arith))

@@ -1,5 +1,5 @@
 -- The work of an accepted division: what is packed, closed, divided and painted is the contract's picture; and the ways out of its settings. Assumes nothing.
-use mathlib.Core.Path.{_≡_, refl, sym, ap, ap₂, _∙_, subst}
+use mathlib.Core.Path.{_≡_, sym, ap, ap₂, _∙_}
 use mathlib.Core.List.{List}
 use Prim.Native.Nat.{ℕ, _+_, _*_, _%_, _≤_, _<_}
 use native.Mathlib.Omega.{arith}
@@ -7,21 +7,19 @@ use lib.ListN.{length}
 use borrow.Author.Tests.{eq-eqb, ne-eqb, lt-ltb, le-ltb}
 use Rattle.image.specs.declared.Geometry.{Geometry}
 use Rattle.image.specs.declared.Copied.{Copied}
-use Rattle.image.specs.Plane.{pixel, packed, painted, part, overwritten}
+use Rattle.image.specs.Plane.{pixel, picture, painted, part, overwritten}
 use Rattle.image.specs.PlaneLaws.{length-plane, length-overwritten, part-overwritten}
 use Rattle.image.specs.Copy.{Packs, Unpacks}
 use Rattle.imgproc.specs.declared.illumination.BackgroundDivideConfig.{BackgroundDivideConfig}
-use Rattle.imgproc.specs.declared.ImgProcError.{ImgProcError}
 use Rattle.imgproc.specs.declared.ImgProcError.the-variants.{InvalidConfiguration}
 use Rattle.imgproc.specs.declared.Check.the-variants.{Accepted, Refused}
-use Rattle.imgproc.specs.declared.morphology.Compared.the-variants.{Comparisons, Refused as Compared·Refused}
 use Rattle.imgproc.specs.declared.tally.Tally.{Tally}
 use Rattle.imgproc.specs.Morphology.{closed}
 use Rattle.imgproc.specs.Sweeps.{TwiceReady, TwiceMorphed}
 use Rattle.imgproc.specs.Refusals.{first, divisionSettings}
 use Rattle.imgproc.specs.Division.{quotient, dividedBy, divided, FlattenReady, Flattened, DivideReady, Divided}
 use Rattle.image.specs.LayoutLaws.{area-small}
-use Rattle.imgproc.proofs.Copies.{packs-plane, unpacks-done}
+use Rattle.image.specs.CopyLaws.{packs-plane, unpacks-done}
 use Rattle.imgproc.proofs.MorphologyRuns.{twice-ready}
 
 pub length-divided : (d : BackgroundDivideConfig) (w h : ℕ) (p c : List ℕ) → length (dividedBy d w h p c) ≡ w * h
@@ -31,7 +29,7 @@ length-divided d w h p c = length-plane w h (λ x y. quotient d (pixel p w x y) 
 -- ---- packed, closed, divided
 module _ (tally : Tally) (src : List ℕ) (g : Geometry) (d : BackgroundDivideConfig) (ws : List ℕ) (ready : FlattenReady tally src g d ws)
     (r : Copied) (first : List ℕ) (pack : Packs src g 0 ws r first) where
-  plane : (length first ≡ length ws) × (part 0 (g .width * g .height) first ≡ packed src (g .width) (g .height) (g .stride))
+  plane : (length first ≡ length ws) × (part 0 (g .width * g .height) first ≡ picture src g)
   plane = packs-plane (ready .from) (omega (arith, ready .fits)) pack
 
   pub close-ready : TwiceReady tally first 0 (g .width * g .height) (2 * (g .width * g .height)) (d .«structuring_element») (g .width) (g .height)
@@ -48,12 +46,12 @@ module _ (tally : Tally) (src : List ℕ) (g : Geometry) (d : BackgroundDivideCo
 
     pub flattened :
         {third : List ℕ}
-        → third ≡ overwritten (g .width * g .height) (dividedBy d (g .width) (g .height) (packed src (g .width) (g .height) (g .stride)) (part (g .width * g .height) (g .width * g .height) second)) second
+        → third ≡ overwritten (g .width * g .height) (dividedBy d (g .width) (g .height) (picture src g) (part (g .width * g .height) (g .width * g .height) second)) second
         → Flattened tally src g d ws raised third
     unfolding divided
     flattened {third} is =
         let n = g .width * g .height in
-        let p = packed src (g .width) (g .height) (g .stride) in
+        let p = picture src g in
         let q = dividedBy d (g .width) (g .height) p (part n n second) in
         let long : length q ≡ n = length-divided d (g .width) (g .height) p (part n n second) in
         let fits : n + length q ≤ length second = omega (arith, close-long, ready .fits) in

@@ -11,8 +11,9 @@ use lib.Seq.{getD-set-same, getD-set-other}
 use borrow.Author.Count.{below-more}
 use borrow.Author.Tests.{le-leb, lt-leb}
 use Rattle.image.specs.declared.Geometry.{Geometry}
-use Rattle.image.specs.Plane.{packed, pixel, picture}
-use Rattle.image.specs.PlaneLaws.{length-tabulate, getD-tabulate, in-plane, packed-again, pixel-plane}
+use Rattle.image.specs.Plane.{pixel, picture}
+use Rattle.image.specs.PlaneLaws.{length-tabulate, getD-tabulate, in-plane, pixel-plane}
+use Rattle.image.specs.Views.{picture-again}
 use Rattle.imgproc.specs.declared.reading.ReadingConfig.{ReadingConfig}
 use Rattle.imgproc.specs.declared.judging.Judged.{Judged}
 use Rattle.imgproc.specs.declared.judging.Judgement.{Judgement}
@@ -78,7 +79,7 @@ module _ (o : List ℕ) (g : Geometry) (sk ws : List ℕ) (at : ℕ) (s : Readin
     threshold-is =
         is
         ∙ ap (λ (p : List ℕ). thresholdAt (s .sauvola) (g .width) (g .height) p x y)
-        (ap (packed o (g .width) (g .height)) (ready .tight) ∙ packed-again o (g .width) (g .height) (ready .tables .layout .wide) (ready .whole))
+        (picture-again o g (ready .tables .layout .wide) (ready .tight) (ready .whole))
 
     goes-on : skipOf (s .grid) (g .width) (g .height) o (x / s .grid .«tile_width») (y / s .grid .«tile_height») ≡ false
     goes-on = bit-none (skipOf (s .grid) (g .width) (g .height) o (x / s .grid .«tile_width») (y / s .grid .«tile_height»)) (sym mark ∙ kept)

@@ -1,7 +1,6 @@
 -- Laws that the proofs of several functions cite.
 pub mod WaysOut
 pub mod Serving
-pub mod Copies
 pub mod Blocks
 pub mod Lanes
 pub mod Passes

@@ -7,14 +7,14 @@ use native.Mathlib.Omega.{arith}
 use lib.ListN.{length}
 use Rattle.image.specs.declared.Geometry.{Geometry}
 use Rattle.image.specs.declared.Copied.{Copied}
-use Rattle.image.specs.Plane.{packed, painted, part}
+use Rattle.image.specs.Plane.{picture, painted, part}
 use Rattle.image.specs.Copy.{Packs, Unpacks}
 use Rattle.imgproc.specs.declared.tally.Tally.{Tally}
 use Rattle.imgproc.specs.declared.morphology.Operation.{Operation}
 use Rattle.imgproc.specs.Sweeps.{MorphReady, TwiceReady}
 use Rattle.imgproc.specs.MorphologyCalls.{operated, OperateReady, CountReady, Counts, RunReady, Runs}
 use Rattle.image.specs.LayoutLaws.{area-small}
-use Rattle.imgproc.proofs.Copies.{packs-plane, unpacks-done}
+use Rattle.image.specs.CopyLaws.{packs-plane, unpacks-done}
 
 -- ---- the planes of an operation: the first, the second, and the scratch after them
 pub once-ready : {t : Tally} {d : List ℕ} {k w h : ℕ} → OperateReady t d k w h → MorphReady t d 0 (w * h) (2 * (w * h)) k k w h
@@ -40,7 +40,7 @@ twice-ready p = record { rows = once-ready p .rows; wide = p .wide; room = p .ro
 -- ---- packed, operated on, painted
 module _ (operation : Operation) (src : List ℕ) (s : Geometry) (dst : List ℕ) (t : Geometry) (k : ℕ) (ws : List ℕ) (ready : RunReady src s dst t k ws)
     (r : Copied) (first : List ℕ) (pack : Packs src s 0 ws r first) where
-  plane : (length first ≡ length ws) × (part 0 (s .width * s .height) first ≡ packed src (s .width) (s .height) (s .stride))
+  plane : (length first ≡ length ws) × (part 0 (s .width * s .height) first ≡ picture src s)
   plane = packs-plane (ready .from) (omega (arith, ready .fits)) pack
 
   pub run-count-ready : CountReady first k (s .width) (s .height)

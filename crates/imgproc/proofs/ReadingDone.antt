@@ -9,7 +9,7 @@ use lib.ListN.{length}
 use Rattle.image.specs.declared.Geometry.{Geometry}
 use Rattle.image.specs.Layout.{Kept}
 use Rattle.image.specs.LayoutLaws.{area-small}
-use Rattle.image.specs.Plane.{packed, painted, part}
+use Rattle.image.specs.Plane.{picture, painted, part}
 use Rattle.imgproc.specs.declared.reading.ReadingConfig.{ReadingConfig}
 use Rattle.imgproc.specs.declared.reading.ReadingCounts.{ReadingCounts}
 use Rattle.imgproc.specs.declared.judging.Judged.{Judged}
@@ -81,7 +81,7 @@ module _ (src : List ℕ) (g : Geometry) (dst : List ℕ) (t : Geometry) (s : Re
 
       -- what was judged is the opened picture
       source : List ℕ
-      source = packed src (g .width) (g .height) (g .stride)
+      source = picture src g
 
       is-opened : part 0 (g .width * g .height) bytes₂ ≡ openedOf s (g .width) (g .height) source
       unfolding source

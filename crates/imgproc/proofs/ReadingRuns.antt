@@ -6,11 +6,12 @@ use Prim.Native.Nat.{ℕ, _+_, _-_, _*_, _/_, _%_, _≤_}
 use native.Mathlib.Nat.{mul-le-mul-left, add-sub-cancel-left}
 use native.Mathlib.Omega.{arith}
 use lib.ListN.{length, take, drop}
-use lib.Seq.{ext-getD, length-take-le}
+use lib.Seq.{length-take-le}
 use Rattle.image.specs.declared.Geometry.{Geometry}
 use Rattle.image.specs.Layout.{Kept}
-use Rattle.image.specs.Plane.{packed, part, overwritten}
-use Rattle.image.specs.PlaneLaws.{length-part, getD-part, length-tabulate, packed-again, length-overwritten, overwritten-before, part-overwritten}
+use Rattle.image.specs.Plane.{part, overwritten}
+use Rattle.image.specs.PlaneLaws.{length-tabulate, length-overwritten, part-before, part-overwritten}
+use Rattle.image.specs.Views.{picture-again}
 use Rattle.imgproc.specs.declared.reading.ReadingConfig.{ReadingConfig}
 use Rattle.imgproc.specs.declared.tally.Tally.{Tally}
 use Rattle.imgproc.specs.declared.surface.TileByte.the-variants.{Skip}
@@ -96,7 +97,7 @@ module _ (g : Geometry) (s : ReadingConfig) (bytes words : List ℕ) (ready : Ma
     is-new =
         skips-are (take (g .width * g .height) bytes) (g .stride) (s .grid) (g .width) (g .height) 0 words′ sized (gathered .gathered)
         ∙ ap (skips (s .grid) (g .width) (g .height))
-        (ap (packed (take (g .width * g .height) bytes) (g .width) (g .height)) (ready .tight) ∙ packed-again (take (g .width * g .height) bytes) (g .width) (g .height) (ready .layout .wide) prefix-long)
+        (picture-again (take (g .width * g .height) bytes) g (ready .layout .wide) (ready .tight) prefix-long)
 
     pub marked : {bytes′ : List ℕ} → bytes′ ≡ overwritten (9 * (g .width * g .height)) (eachTile (byteBy Skip (s .grid)) (s .grid) (g .width) (g .height) 0 words′) bytes → Marks g s bytes words bytes′ words′
     unfolding new
@@ -107,14 +108,7 @@ module _ (g : Geometry) (s : ReadingConfig) (bytes words : List ℕ) (ready : Ma
         let long = length-overwritten (9 * m) new bytes fits in
         record {
           opened =
-              ap (part 0 m) e
-              ∙ ext-getD 0 (part 0 m (overwritten (9 * m) new bytes)) (part 0 m bytes)
-              (length-part 0 m (overwritten (9 * m) new bytes) (omega (arith, long, ready .bytes-fit)) ∙ sym (length-part 0 m bytes (omega (arith, ready .bytes-fit))))
-              (λ i l.
-              let size = length-part 0 m (overwritten (9 * m) new bytes) (omega (arith, long, ready .bytes-fit)) in
-              getD-part 0 m (overwritten (9 * m) new bytes) (omega (arith, long, ready .bytes-fit)) i (omega arith)
-              ∙ overwritten-before (9 * m) new bytes fits (0 + i) (omega arith)
-              ∙ sym (getD-part 0 m bytes (omega (arith, ready .bytes-fit)) i (omega arith)));
+              ap (part 0 m) e ∙ part-before (9 * m) new bytes fits 0 m (omega arith);
           skips = ap₂ (λ (c : ℕ) (d : List ℕ). part (9 * m) c d) (sym new-long) e ∙ part-overwritten (9 * m) new bytes fits;
           bytes-long = ap length e ∙ long;
           words-long = gathered .long;

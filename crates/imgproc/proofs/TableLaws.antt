@@ -9,10 +9,8 @@ use lib.ListN.{length, set, getD, length-set}
 use lib.Seq.{getD-set-same, getD-set-other}
 use borrow.Author.Count.{below-more}
 use Rattle.image.specs.declared.Geometry.{Geometry}
-use Rattle.image.specs.Layout.{Kept, rowLayout, sideLimit}
-use Rattle.image.specs.LayoutLaws.{row-within, row-kept}
-use Rattle.image.specs.Row.{rowIn}
-use Rattle.image.specs.PlaneLaws.{length-part, getD-part, pixel-packed}
+use Rattle.image.specs.Layout.{sideLimit}
+use Rattle.image.specs.Views.{pixel-picture}
 use Rattle.imgproc.specs.Refusals.{tableEntries}
 use Rattle.imgproc.specs.Sums.{squared, sumTo, boxSum}
 use Rattle.imgproc.specs.SumLaws.{sum-none, sum-more, sum-le, box-top, box-left, box-down, box-le}
@@ -20,20 +18,9 @@ use Rattle.imgproc.specs.Tables.{pixelsOf, Holds, Both}
 
 -- ---- the pixels of a kept picture
 
--- row y that was handed out has the width, and holds the packed picture's pixels
-module _ (d : List ℕ) (g : Geometry) (k : Kept (length d) g) (y : ℕ) (Y : y < g .height) {r : List ℕ} (e : r ≡ rowIn (rowLayout (length d) g y) d y) where
-  pub row-long : length r ≡ g .width
-  row-long = ap length (e ∙ row-kept d k y Y) ∙ length-part (y * g .stride) (g .width) d (row-within k y Y)
-
-  pub row-pixel : (x : ℕ) → x < g .width → getD r x 0 ≡ pixelsOf d g x y
-  row-pixel x X =
-      ap (λ (l : List ℕ). getD l x 0) (e ∙ row-kept d k y Y)
-      ∙ getD-part (y * g .stride) (g .width) d (row-within k y Y) x X
-      ∙ sym (pixel-packed d (g .width) (g .height) (g .stride) x y X Y)
-
 -- each pixel of a picture of bytes is a byte
 pub pixel-byte : (d : List ℕ) (g : Geometry) → ((i : ℕ) → getD d i 0 ≤ 255) → (x y : ℕ) → x < g .width → y < g .height → pixelsOf d g x y ≤ 255
-pixel-byte d g byte x y X Y = rw (pixel-packed d (g .width) (g .height) (g .stride) x y X Y) (byte (y * g .stride + x))
+pixel-byte d g byte x y X Y = rw (pixel-picture d g x y X Y) (byte (y * g .stride + x))
 
 -- ---- entries
 

@@ -119,10 +119,10 @@ thresholdOf g w h p i j =
 
 -- the thresholds that a build stores, tile row after tile row
 unfoldable pub thresholds : TileThresholdConfig → ℕ → ℕ → List ℕ → List ℕ
-unfolding tabulate thresholdOf
+unfolding thresholdOf
 thresholds g w h p = tabulate (λ t. thresholdOf g w h p (t % tilesX g w) (t / tilesX g w)) (tilesX g w * tilesY g h)
 
 -- the skips, as bytes 0 and 1
 unfoldable pub skips : TileThresholdConfig → ℕ → ℕ → List ℕ → List ℕ
-unfolding tabulate skipOf
+unfolding skipOf
 skips g w h p = tabulate (λ t. bit (skipOf g w h p (t % tilesX g w) (t / tilesX g w))) (tilesX g w * tilesY g h)

@@ -1,5 +1,5 @@
--- What follows from the definition of a reading: its counts add up, none is dark where no pixel is judged so, its comparisons stay below 24wh,
--- and it goes by the pixels alone. Assumes nothing.
+-- What follows from the definition of a reading: its counts add up, none is dark where no pixel is judged so, and its
+-- comparisons stay below 24wh. Assumes nothing.
 use mathlib.Core.Path.{_≡_, refl, sym, ap, ap₂, _∙_}
 use mathlib.Core.Bool.{Bool, true, false}
 use mathlib.Core.List.{List}
@@ -8,8 +8,7 @@ use native.Mathlib.Nat.{eq-or-lt-of-le, mod-lt, div-lt-iff-lt-mul, mul-comm, mul
 use native.Mathlib.Omega.{arith}
 use mathlib.Core.Logic.{⊎-elim}
 use lib.Arith.{digits-mod, digits-div}
-use Rattle.image.specs.Plane.{pixel, packed}
-use Rattle.image.specs.PlaneLaws.{plane-same, in-plane}
+use Rattle.image.specs.PlaneLaws.{in-plane}
 use Rattle.imgproc.specs.declared.reading.ReadingConfig.{ReadingConfig}
 use Rattle.imgproc.specs.declared.judging.Judgement.{Judgement}
 use Rattle.imgproc.specs.declared.judging.Judgement.the-variants.{Dark, Light, Skipped}
@@ -76,11 +75,6 @@ dark-none s w h p W n =
 -- the comparisons stay below 24wh
 pub comparisons-below : (s : ReadingConfig) (w h : ℕ) → 0 < w → 0 < h → 0 < s .division .«structuring_element» → 0 < s .«opening_kernel» → comparisonsOf s w h < 24 * (w * h)
 comparisons-below s w h W H K M = reading-below w h W H (s .division .«structuring_element») (s .«opening_kernel») K M
-
--- two sources with the same pixels are one to a reading, whatever their strides, padding and tails
-pub same-pixels : (w h : ℕ) (a b : List ℕ) (sa sb : ℕ) → 0 < w → ((x y : ℕ) → x < w → y < h → pixel a sa x y ≡ pixel b sb x y) → packed a w h sa ≡ packed b w h sb
-unfolding packed
-same-pixels w h a b sa sb W each = plane-same w h (pixel a sa) (pixel b sb) W each
 
 -- ---- counting row by row
 

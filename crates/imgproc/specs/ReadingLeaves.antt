@@ -10,13 +10,12 @@ use lib.ListN.{length, getD}
 use borrow.Author.Tests.{ltb-true}
 use Rattle.image.specs.LayoutLaws.{row-within}
 use Rattle.image.specs.Plane.{pixel, packed}
-use Rattle.image.specs.PlaneLaws.{pixel-plane}
+use Rattle.image.specs.PlaneLaws.{pixel-plane, same-pixels}
 use Rattle.image.specs.PaintLaws.{length-painted, painted-byte, painted-pixel}
 use Rattle.imgproc.specs.declared.reading.ReadingConfig.{ReadingConfig}
 use Rattle.imgproc.specs.declared.judging.Judgement.{Judgement}
 use Rattle.imgproc.specs.declared.judging.Judgement.the-variants.{Dark, Light, Skipped}
 use Rattle.imgproc.specs.Reading.{judged, readingOf, byteOf, marked, marksFrom}
-use Rattle.imgproc.specs.ReadingLaws.{same-pixels}
 use Rattle.imgproc.specs.ReadingMeans.{AcceptedReading, settingsOf, wide, high, sourceOf, judgedHere, said, pair, numbers-are}
 
 module _ (a : AcceptedReading) where

@@ -45,7 +45,7 @@ RowJudged before s g o y after out = PixelsJudged before s g o y (g .width) afte
 
 -- the packed picture of the bytes of the judgements over o
 unfoldable pub markedOver : ReadingConfig → ℕ → ℕ → List ℕ → List ℕ
-unfolding plane judgedOver
+unfolding judgedOver
 markedOver s w h o = plane w h (λ x y. byteOf (s .sauvola) (judgedOver s w h o x y))
 
 -- every pixel judged: the rows of the destination, and the three counts

@@ -1,4 +1,5 @@
--- The five numbers of a tile as the grid's build keeps them in its workspace, and what it makes of them. Definitions only.
+-- The five numbers of a tile as the grid's build keeps them in its workspace, and what it makes of them.
+-- Definitions only.
 use Prim.Native.Nat.{ℕ, zero, suc, _+_, _-_, _*_, _/_, _%_, _≤_, _<_, min, max}
 use mathlib.Core.Path.{_≡_}
 use mathlib.Core.List.{List}
@@ -7,7 +8,7 @@ use lib.IntN.{pos, _+ℤ_}
 use lib.ListN.{length, getD}
 use Rattle.image.specs.declared.Geometry.{Geometry}
 use Rattle.image.specs.Plane.{tabulate, pixel}
-use Rattle.image.specs.Layout.{sideLimit}
+use Rattle.image.specs.Layout.{Kept, sideLimit, areaLimit}
 use Rattle.imgproc.specs.declared.grid.TileThresholdConfig.{TileThresholdConfig}
 use Rattle.imgproc.specs.declared.tiles.TileNumbers.{TileNumbers}
 use Rattle.imgproc.specs.Fold.{Box, bit, foldOver}
@@ -26,11 +27,23 @@ pub record Sized (g : TileThresholdConfig) (w h : ℕ) : Type 0 where
 
 -- minimum, maximum, S, Q and c of the pixels f in a box
 abbrev pub numbersIn : (ℕ → ℕ → ℕ) → Box → TileNumbers
-numbersIn f b = record { minimum = least f b; maximum = most f b; sum = sum f b; «sum_sq» = sumSquares f b; count = count b }
+numbersIn f b = record {
+  minimum = least f b;
+  maximum = most f b;
+  sum = sum f b;
+  «sum_sq» = sumSquares f b;
+  count = count b;
+}
 
 -- of the samples f a, .., f b of a line
 abbrev pub lineNumbers : (ℕ → ℕ) → ℕ → ℕ → TileNumbers
-lineNumbers f a b = record { minimum = foldOver min f a b; maximum = foldOver max f a b; sum = foldOver _+_ f a b; «sum_sq» = foldOver _+_ (λ x. f x * f x) a b; count = foldOver _+_ (λ x. 1) a b }
+lineNumbers f a b = record {
+  minimum = foldOver min f a b;
+  maximum = foldOver max f a b;
+  sum = foldOver _+_ f a b;
+  «sum_sq» = foldOver _+_ (λ x. f x * f x) a b;
+  count = foldOver _+_ (λ x. 1) a b;
+}
 
 -- the pixels of tile (i, j), clipped to the picture
 abbrev pub tile : TileThresholdConfig → ℕ → ℕ → ℕ → ℕ → Box
@@ -43,7 +56,13 @@ tile g w h i j = record {
 
 -- the numbers of two sets of pixels together
 abbrev pub joined : TileNumbers → TileNumbers → TileNumbers
-joined a b = record { minimum = min (a .minimum) (b .minimum); maximum = max (a .maximum) (b .maximum); sum = a .sum + b .sum; «sum_sq» = a .«sum_sq» + b .«sum_sq»; count = a .count + b .count }
+joined a b = record {
+  minimum = min (a .minimum) (b .minimum);
+  maximum = max (a .maximum) (b .maximum);
+  sum = a .sum + b .sum;
+  «sum_sq» = a .«sum_sq» + b .«sum_sq»;
+  count = a .count + b .count;
+}
 
 -- n a joined with the k after it
 unfoldable pub joinFrom : (ℕ → TileNumbers) → ℕ → ℕ → TileNumbers
@@ -57,7 +76,13 @@ joinOver n a b = joinFrom n a (b - a)
 
 -- the five numbers that stand from `at` on
 abbrev pub entry : List ℕ → ℕ → TileNumbers
-entry ws at = record { minimum = getD ws at 0; maximum = getD ws (at + 1) 0; sum = getD ws (at + 2) 0; «sum_sq» = getD ws (at + 3) 0; count = getD ws (at + 4) 0 }
+entry ws at = record {
+  minimum = getD ws at 0;
+  maximum = getD ws (at + 1) 0;
+  sum = getD ws (at + 2) 0;
+  «sum_sq» = getD ws (at + 3) 0;
+  count = getD ws (at + 4) 0;
+}
 
 -- the numbers of tile (i, j) of a grid of tx columns that starts at `at`, tile row after tile row
 abbrev pub tileEntry : ℕ → ℕ → List ℕ → ℕ → ℕ → TileNumbers
@@ -76,6 +101,13 @@ pub record Stores (at : ℕ) (n : TileNumbers) (before after : List ℕ) : Type 
   pub before-it : (i : ℕ) → i < at → getD after i 0 ≡ getD before i 0
   pub after-it : (i : ℕ) → at + 5 ≤ i → getD after i 0 ≡ getD before i 0
 
+-- what `gather` asks: the picture lies in the slice, the tiles have sides, and their numbers have room from `at` on
+abbrev pub GatherReady : List ℕ → Geometry → TileThresholdConfig → ℕ → List ℕ → Type 0
+GatherReady src s g at ws =
+    Kept (length src) s
+    × Sized g (s .width) (s .height)
+    × (at + 5 * (tilesX g (s .width) * tilesY g (s .height)) ≤ length ws)
+
 -- the contract of `gather`: the numbers of every tile from `at` on, and nothing else
 pub record Gathers (src : List ℕ) (s : Geometry) (g : TileThresholdConfig) (at : ℕ) (before after : List ℕ) : Type 0 where
   pub long : length after ≡ length before
@@ -83,13 +115,13 @@ pub record Gathers (src : List ℕ) (s : Geometry) (g : TileThresholdConfig) (at
   pub before-it : (i : ℕ) → i < at → getD after i 0 ≡ getD before i 0
   pub after-it : (i : ℕ) → at + 5 * (tilesX g (s .width) * tilesY g (s .height)) ≤ i → getD after i 0 ≡ getD before i 0
 
--- numbers of at most 2^24 bytes
+-- numbers of at most as many bytes as a picture has
 pub record Small (n : TileNumbers) : Type 0 where
   pub minimum : n .minimum < 256
   pub maximum : n .maximum < 256
-  pub sum : n .sum ≤ 4278190080
-  pub sumSq : n .«sum_sq» ≤ 1090938470400
-  pub count : n .count ≤ 16777216
+  pub sum : n .sum ≤ 255 * areaLimit
+  pub sumSq : n .«sum_sq» ≤ 65025 * areaLimit
+  pub count : n .count ≤ areaLimit
 
 -- and whose minimum is at most their maximum
 pub record Proper (n : TileNumbers) : Type 0 where
@@ -123,7 +155,8 @@ joinedAround r tx ty at ws i j = joinedRows at tx ws (low r i) (high r tx i) (lo
 
 -- the stored threshold of a neighbourhood with the numbers n
 abbrev pub thresholdBy : TileThresholdConfig → TileNumbers → ℕ
-thresholdBy g n = clipped (pos (baseOf (g .method) (n .minimum) (n .maximum) (n .sum) (n .«sum_sq») (n .count)) +ℤ g .«threshold_offset»)
+thresholdBy g n =
+    clipped (pos (baseOf (g .method) (n .minimum) (n .maximum) (n .sum) (n .«sum_sq») (n .count)) +ℤ g .«threshold_offset»)
 
 -- its stored skip
 abbrev pub skipBy : TileThresholdConfig → TileNumbers → ℕ
@@ -132,4 +165,5 @@ skipBy g n = bit (ltb (n .maximum - n .minimum) (g .«contrast_floor»))
 -- one number for each tile, tile row after tile row
 abbrev pub eachTile : (TileNumbers → ℕ) → TileThresholdConfig → ℕ → ℕ → ℕ → List ℕ → List ℕ
 eachTile by g w h at ws =
-    tabulate (λ t. by (joinedAround (g .«neighborhood_radius») (tilesX g w) (tilesY g h) at ws (t % tilesX g w) (t / tilesX g w))) (tilesX g w * tilesY g h)
+    let around = joinedAround (g .«neighborhood_radius») (tilesX g w) (tilesY g h) at ws in
+    tabulate (λ t. by (around (t % tilesX g w) (t / tilesX g w))) (tilesX g w * tilesY g h)

@@ -11,7 +11,7 @@ ghost use mathlib.Core.Path.{_≡_};
 ghost use Prim.Native.Nat.{ℕ, _+_, _*_, _≤_, _<_};
 ghost use lib.ListN.{length, getD};
 ghost use Rattle.image.specs.Layout.{Kept};
-ghost use Rattle.image.specs.Plane.{part, packed, overwritten, tabulate};
+ghost use Rattle.image.specs.Plane.{part, picture, overwritten, tabulate};
 ghost use Rattle.imgproc.specs.Refusals.{first, divisionSettings};
 ghost use Rattle.imgproc.specs.Division.{divisionDefaults, quotient, dividedBy, FlattenReady, Flattened, DivideReady, Divided, division};
 ghost use Rattle.imgproc.specs.Calls.{Serves};
@@ -72,7 +72,7 @@ pub(crate) fn divide_plane(
     at: usize,
 )
     requires { ⌜ (0 < config .«denominator_floor») × (Kept (length (now src)) geometry × (at + geometry .width * geometry .height ≤ length (now workspace))) ⌝ }
-    ensures { λ _. ⌜ now (workspace .exit) ≡ overwritten at (dividedBy config (geometry .width) (geometry .height) (packed (now (src .entry)) (geometry .width) (geometry .height) (geometry .stride)) (part at (geometry .width * geometry .height) (now (workspace .entry)))) (now (workspace .entry)) ⌝ }
+    ensures { λ _. ⌜ now (workspace .exit) ≡ overwritten at (dividedBy config (geometry .width) (geometry .height) (picture (now (src .entry)) geometry) (part at (geometry .width * geometry .height) (now (workspace .entry)))) (now (workspace .entry)) ⌝ }
 {
     let width = geometry.width;
     let height = geometry.height;

@@ -1,14 +1,16 @@
 // The five numbers of each tile, gathered into a u64 workspace from an offset on, and joined over a neighbourhood.
 use crate::grid::TileThresholdConfig;
 use image::Geometry;
+use image::Layout;
 ghost use mathlib.Core.Path.{_≡_};
 ghost use Prim.Native.Nat.{_+_, _-_, _*_, _^_, _≤_, _<_, min, max};
 ghost use lib.ListN.{length, getD};
-ghost use Rattle.image.specs.Layout.{Kept};
+ghost use Rattle.image.specs.Layout.{Kept, sideLimit};
 ghost use Rattle.image.specs.Plane.{pixel};
 ghost use Rattle.imgproc.specs.Reach.{ceiling, low, high};
 ghost use Rattle.imgproc.specs.Grid.{tilesX, tilesY};
-ghost use Rattle.imgproc.specs.Tiles.{Sized, numbersIn, lineNumbers, tile, joined, joinOver, entry, Stores, Gathers, SmallRow, SmallGrid, joinedRows, joinedAround};
+ghost use Rattle.imgproc.specs.Tiles.{Sized, numbersIn, lineNumbers, tile, joined, joinOver, entry, Stores, GatherReady, Gathers};
+ghost use Rattle.imgproc.specs.Tiles.{SmallRow, SmallGrid, joinedRows, joinedAround};
 
 // The numbers of a set of pixels.
 pub struct TileNumbers {
@@ -40,10 +42,10 @@ fn greater(a: u8, b: u8) -> u8
     if a < b { b } else { a }
 }
 
-// The numbers of the samples left..right of a row that starts at `at`.
-fn row_numbers(src: &[u8], at: usize, left: usize, right: usize) -> TileNumbers
-    requires { ⌜ (left < right) × (right ≤ left + 4096) × (at + right ≤ length (now src)) ⌝ }
-    ensures { λ r. ⌜ r ≡ lineNumbers (λ x. getD (now (src .entry)) (at + x) 0) left (right - 1) ⌝ }
+// The numbers of the samples left..right of a row.
+fn row_numbers(row: &[u8], left: usize, right: usize) -> TileNumbers
+    requires { ⌜ (left < right) × (right ≤ left + sideLimit) × (right ≤ length (now row)) ⌝ }
+    ensures { λ r. ⌜ r ≡ lineNumbers (λ x. getD (now (row .entry)) x 0) left (right - 1) ⌝ }
 {
     let mut minimum: u8 = 255;
     let mut maximum: u8 = 0;
@@ -51,7 +53,7 @@ fn row_numbers(src: &[u8], at: usize, left: usize, right: usize) -> TileNumbers
     let mut sum_sq: u32 = 0;
     let mut x = left;
     while x < right {
-        let value = src[at + x];
+        let value = row[x];
         minimum = lesser(minimum, value);
         maximum = greater(maximum, value);
         sum += value as u32;
@@ -84,20 +86,22 @@ fn join(a: TileNumbers, b: TileNumbers) -> TileNumbers
 // The numbers of the pixels left..right, top..bottom of a picture.
 fn box_numbers(
     src: &[u8],
-    stride: usize,
+    geometry: Geometry,
     left: usize,
     right: usize,
     top: usize,
     bottom: usize,
 ) -> TileNumbers
-    requires { ⌜ (left < right) × (right ≤ left + 4096) × (top < bottom) × (bottom ≤ top + 4096) × (right ≤ stride) × ((bottom - 1) * stride + right ≤ length (now src)) ⌝ }
-    ensures { λ r. ⌜ r ≡ numbersIn (pixel (now (src .entry)) stride) (record { left = left; right = right - 1; top = top; bottom = bottom - 1 }) ⌝ }
+    requires { ⌜ Kept (length (now src)) geometry × (left < right) × (right ≤ geometry .width)
+        × (top < bottom) × (bottom ≤ geometry .height) ⌝ }
+    ensures { λ r. ⌜ r ≡ numbersIn (pixel (now (src .entry)) (geometry .stride))
+        (record { left = left; right = right - 1; top = top; bottom = bottom - 1 }) ⌝ }
 {
-    let mut numbers = row_numbers(src, top * stride, left, right);
+    let mut numbers = row_numbers(image::row(src, geometry, top), left, right);
     let mut y = top + 1;
     while y < bottom {
-        let row = row_numbers(src, y * stride, left, right);
-        numbers = join(numbers, row);
+        let next = row_numbers(image::row(src, geometry, y), left, right);
+        numbers = join(numbers, next);
         y += 1;
     }
     numbers
@@ -120,14 +124,16 @@ fn tile_numbers(
     i: usize,
     j: usize,
 ) -> TileNumbers
-    requires { ⌜ Kept (length (now src)) geometry × Sized config (geometry .width) (geometry .height) × (i < tilesX config (geometry .width)) × (j < tilesY config (geometry .height)) ⌝ }
-    ensures { λ r. ⌜ r ≡ numbersIn (pixel (now (src .entry)) (geometry .stride)) (tile config (geometry .width) (geometry .height) i j) ⌝ }
+    requires { ⌜ Kept (length (now src)) geometry × Sized config (geometry .width) (geometry .height)
+        × (i < tilesX config (geometry .width)) × (j < tilesY config (geometry .height)) ⌝ }
+    ensures { λ r. ⌜ r ≡ numbersIn (pixel (now (src .entry)) (geometry .stride))
+        (tile config (geometry .width) (geometry .height) i j) ⌝ }
 {
     let left = i * config.tile_width;
     let top = j * config.tile_height;
     let right = tile_end(geometry.width, config.tile_width, i);
     let bottom = tile_end(geometry.height, config.tile_height, j);
-    box_numbers(src, geometry.stride, left, right, top, bottom)
+    box_numbers(src, geometry, left, right, top, bottom)
 }
 
 // The five numbers of a tile, stored from `at` on.
@@ -142,15 +148,15 @@ fn store(workspace: &mut [u64], at: usize, numbers: TileNumbers)
     workspace[at + 4] = numbers.count;
 }
 
-// The numbers of every tile of a picture, from `at` on, tile row after tile row.
-pub(crate) fn gather(
+// The numbers of every tile, once the layout is known to be valid.
+fn gather_tiles(
     src: &[u8],
     geometry: Geometry,
     config: TileThresholdConfig,
     workspace: &mut [u64],
     at: usize,
 )
-    requires { ⌜ Kept (length (now src)) geometry × Sized config (geometry .width) (geometry .height) × (at + 5 * (tilesX config (geometry .width) * tilesY config (geometry .height)) ≤ length (now workspace)) ⌝ }
+    requires { ⌜ GatherReady (now src) geometry config at (now workspace) ⌝ }
     ensures { λ _. ⌜ Gathers (now (src .entry)) geometry config at (now (workspace .entry)) (now (workspace .exit)) ⌝ }
 {
     let tiles_x = tiles(geometry.width, config.tile_width);
@@ -164,9 +170,28 @@ pub(crate) fn gather(
     }
 }
 
+// The numbers of every tile of a picture, from `at` on, tile row after tile row. The layout is tested once here, so that
+// the compiler takes the tests of `image::row` out of the loops.
+pub(crate) fn gather(
+    src: &[u8],
+    geometry: Geometry,
+    config: TileThresholdConfig,
+    workspace: &mut [u64],
+    at: usize,
+)
+    requires { ⌜ GatherReady (now src) geometry config at (now workspace) ⌝ }
+    ensures { λ _. ⌜ Gathers (now (src .entry)) geometry config at (now (workspace .entry)) (now (workspace .exit)) ⌝ }
+{
+    let Layout::Valid(_) = image::validate_layout(src.len(), geometry) else {
+        return;
+    };
+    gather_tiles(src, geometry, config, workspace, at);
+}
+
 // The five numbers that stand from `at` on.
 fn load(workspace: &[u64], at: usize) -> TileNumbers
-    requires { ⌜ (at + 5 ≤ length (now workspace)) × (entry (now workspace) at .minimum < 256) × (entry (now workspace) at .maximum < 256) ⌝ }
+    requires { ⌜ (at + 5 ≤ length (now workspace))
+        × (entry (now workspace) at .minimum < 256) × (entry (now workspace) at .maximum < 256) ⌝ }
     ensures { λ r. ⌜ r ≡ entry (now (workspace .entry)) at ⌝ }
 {
     TileNumbers {
@@ -180,7 +205,7 @@ fn load(workspace: &[u64], at: usize) -> TileNumbers
 
 // The numbers of the tiles from..=to of a tile row, whose first tile stands at `row`, joined.
 fn join_row(workspace: &[u64], row: usize, from: usize, to: usize) -> TileNumbers
-    requires { ⌜ (from ≤ to) × (to < 4096) × SmallRow row to (now workspace) ⌝ }
+    requires { ⌜ (from ≤ to) × (to < sideLimit) × SmallRow row to (now workspace) ⌝ }
     ensures { λ r. ⌜ r ≡ joinOver (λ i. entry (now (workspace .entry)) (row + 5 * i)) from to ⌝ }
 {
     let mut numbers = load(workspace, row + 5 * from);

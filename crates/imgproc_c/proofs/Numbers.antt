@@ -1,5 +1,5 @@
 -- From the answers of the picture crate to the exports' numbers. Assumes nothing.
-use Prim.Native.Nat.{ℕ, _*_}
+use Prim.Native.Nat.{ℕ}
 use native.Mathlib.Nat.{mul-one}
 use native.Mathlib.Omega.{arith}
 use mathlib.Core.Path.{_≡_, refl, sym, ap, _∙_}
@@ -15,10 +15,11 @@ use Rattle.image.specs.declared.Written.the-variants.{Done as Written·Done, Re
 use Rattle.image.specs.declared.Copied.{Copied}
 use Rattle.image.specs.declared.Copied.the-variants.{Done, WorkspaceTooSmall, Refused as Copied·Refused}
 use Rattle.image.specs.Layout.{Kept, layoutOf, layoutNumber, numberOf, pixelLayout, rowLayout}
-use Rattle.image.specs.LayoutLaws.{row-inside, row-within, kept-valid}
+use Rattle.image.specs.LayoutLaws.{row-inside, kept-valid}
 use Rattle.image.specs.Pixel.{valueIn, writtenIn, Sets}
 use Rattle.image.specs.Plane.{overwritten}
-use Rattle.image.specs.PlaneLaws.{length-part, packed-again}
+use Rattle.image.specs.PlaneLaws.{packed-again}
+use Rattle.image.specs.RowLaws.{row-long}
 use Rattle.image.specs.Row.{rowIn}
 use Rattle.image.specs.Copy.{copiedOf, copiedNumber, packedIn, Packs, Unpacks}
 use Rattle.imgproc_c.specs.Picture.{geometry, valueOut, Gets, SetsNumber, rowRoom, rowOut, RowCopied, PacksNumber, UnpacksNumber}
@@ -74,10 +75,7 @@ module _ (d : List ℕ) (g : Geometry) (y : ℕ) (before : List ℕ) {l : Layout
     wide = ap (λ (u : Geometry). u .width) (row-inside (length d) g v y found .0 .1)
 
     long : length row ≡ g .width
-    long =
-        let k = row-inside (length d) g v y found in
-        ap length (own ∙ ap (λ (u : Layout). rowIn u d y) (found ∙ ap Valid (sym (k .0 .1))))
-        ∙ length-part (y * g .stride) (g .width) d (row-within kept y (ltb-true y (g .height) (k .1)))
+    long = row-long d g kept y (ltb-true y (g .height) (row-inside (length d) g v y found .1)) own
 
     line : layoutOf (length row) (geometry (g .width) 1 (g .width)) ≡ Valid (geometry (g .width) 1 (g .width))
     line = kept-valid (record {

@@ -5,7 +5,8 @@ use mathlib.Core.Path.{_≡_, refl, sym, ap, _∙_}
 use mathlib.Core.List.{List}
 use lib.ListN.{length}
 use denote.Ref.{now}
-use Rattle.image.specs.Plane.{tabulate, plane, overwritten}
+use Rattle.image.specs.Plane.{tabulate, overwritten}
+use Rattle.image.specs.PlaneLaws.{plane-tabulated}
 use Rattle.column.proofs.Writes.{written-none, written-more, length-written}
 use Rattle.column.proofs.Rows.{laid, inside}
 use Rattle.column.proofs.draw_rows.Statement.{statement}
@@ -68,14 +69,16 @@ same-length c =
     length-written (laid (now (s .args .pixels)) (s .args .width)) (s .args .at) (l .i) (now (s .args .out)) (l .out) (omega (arith, s .pre .fits)) (l .inv .1)
 
 returns : tie.Need-returns Inv-loop μ-loop
-unfolding plane
 returns c =
     let a = c .before .before .before .before .args in
     let l = c .before .loop in
     let e : l .i ≡ (a .width + 1) * a .height = omega arith in
     record {
       answers = refl;
-      leaves = l .inv .1 ∙ ap (λ (n : ℕ). overwritten (a .at) (tabulate (laid (now (a .pixels)) (a .width)) n) (now (a .out))) e;
+      leaves =
+          l .inv .1
+          ∙ ap (λ (n : ℕ). overwritten (a .at) (tabulate (laid (now (a .pixels)) (a .width)) n) (now (a .out))) e
+          ∙ ap (λ (p : List ℕ). overwritten (a .at) p (now (a .out))) (sym (plane-tabulated (a .width + 1) (a .height) _));
     }
 
 pub draw-rows-spec : {M : Type 1} → statement M

@@ -28,7 +28,8 @@ returns c =
     let l = c .before .before .before in
     let a = l .before .before .before .args in
     packs (now (a .src)) (a .geometry) (a .at) (now (a .workspace))
-    (copied-refused (length (now (a .src))) (a .geometry) (a .at) (length (now (a .workspace))) (l .validate-layout .ensures) (c .before .enum-told .given .1) (c .refusal .ensures)) refl
+    (copied-refused (length (now (a .src))) (a .geometry) (a .at) (length (now (a .workspace))) (l .validate-layout .ensures)
+    (c .before .enum-told .given .1) (c .refusal .ensures)) refl
 
 returns-2 : tie.Need-returns-2
 returns-2 c =
@@ -36,7 +37,8 @@ returns-2 c =
     let l = v .before .before in
     let a = l .before .before .before .args in
     packs (now (a .src)) (a .geometry) (a .at) (now (a .workspace))
-    (copied-short (length (now (a .src))) (a .geometry) (a .at) (length (now (a .workspace))) (l .validate-layout .ensures) (v .layout .given .1) (omega (arith, c .if1 .taken))) refl
+    (copied-short (length (now (a .src))) (a .geometry) (a .at) (length (now (a .workspace))) (l .validate-layout .ensures)
+    (v .layout .given .1) (omega (arith, c .if1 .taken))) refl
 
 sub-if2 : tie.Need-sub-if2
 sub-if2 c = search needs
@@ -54,7 +56,8 @@ returns-3 c =
     let l = v .before .before in
     let a = l .before .before .before .args in
     packs (now (a .src)) (a .geometry) (a .at) (now (a .workspace))
-    (copied-short (length (now (a .src))) (a .geometry) (a .at) (length (now (a .workspace))) (l .validate-layout .ensures) (v .layout .given .1) (omega (arith, c .if2 .taken, c .before .if1 .left))) refl
+    (copied-short (length (now (a .src))) (a .geometry) (a .at) (length (now (a .workspace))) (l .validate-layout .ensures)
+    (v .layout .given .1) (omega (arith, c .if2 .taken, c .before .if1 .left))) refl
 
 pack-rows-requires : tie.Need-pack-rows-requires
 pack-rows-requires c κs =
@@ -77,8 +80,10 @@ returns-4 c =
     let l = v .before .before in
     let a = l .before .before .before .args in
     packs (now (a .src)) (a .geometry) (a .at) (now (a .workspace))
-    (copied-done (length (now (a .src))) (a .geometry) (a .at) (length (now (a .workspace))) (l .validate-layout .ensures) (v .layout .given .1) (omega (arith, e .if2 .left, e .before .if1 .left)))
-    (p .pack-rows .ensures ∙ ap (λ (u : Geometry). packedIn Done u (now (a .src)) (a .at) (now (a .workspace))) (sym (same-here (length (now (a .src))) (a .geometry) (a .at) (length (now (a .workspace))) (l .validate-layout .ensures) (v .layout .given .1))))
+    (copied-done (length (now (a .src))) (a .geometry) (a .at) (length (now (a .workspace))) (l .validate-layout .ensures)
+    (v .layout .given .1) (omega (arith, e .if2 .left, e .before .if1 .left)))
+    (p .pack-rows .ensures ∙ ap (λ (u : Geometry). packedIn Done u (now (a .src)) (a .at) (now (a .workspace)))
+    (sym (same-here (length (now (a .src))) (a .geometry) (a .at) (length (now (a .workspace))) (l .validate-layout .ensures) (v .layout .given .1))))
 
 pub pack-spec : {M : Type 1} → statement M
 pack-spec =

@@ -5,33 +5,45 @@ use Prim.Native.Nat.{_+_, _-_, _*_, _≤_}
 use mathlib.Core.Path.{sym, _∙_}
 use lib.ListN.{length}
 use denote.Ref.{now}
-use Rattle.image.specs.FillLaws.{Filled, fill-start, fill-same, fill-done, fill-fits, fill-next, lent-row, row-long, row-pixel}
+use Rattle.image.specs.FillLaws.{Filled, fill-start, fill-same, fill-done, fill-fits, fill-next, lent-row}
+use Rattle.image.specs.RowLaws.{row-long, row-pixel}
 use Rattle.image.specs.Plane.{pixel, packed}
 use Rattle.image.proofs.pack_rows.Statement.{statement}
 use Rattle.image.proofs.pack_rows.Tie as tie
 
 abbrev Inv-loop : tie.InvT-loop
-Inv-loop src geometry workspace₀ at width height y₀ workspace y = Filled (geometry .width) (geometry .height) (pixel src (geometry .stride)) at workspace₀ workspace y
+Inv-loop src geometry workspace₀ at width height y₀ workspace y =
+    Filled (geometry .width) (geometry .height) (pixel src (geometry .stride)) at workspace₀ workspace y
 
 abbrev μ-loop : tie.MeasureT-loop
 μ-loop src geometry workspace₀ at width height y₀ workspace y = height - y
 
 loop-holds : tie.Need-loop-holds Inv-loop μ-loop
-loop-holds c = let a = c .before .before .args in fill-start (a .geometry .width) (a .geometry .height) (pixel (now (a .src)) (a .geometry .stride)) (a .at) (now (a .workspace))
+loop-holds c =
+    let a = c .before .before .args in
+    fill-start (a .geometry .width) (a .geometry .height) (pixel (now (a .src)) (a .geometry .stride)) (a .at) (now (a .workspace))
 
 -- row y lies in the workspace
-fits : (c : tie.In-loop Inv-loop μ-loop) → c .before .before .before .before .args .at + c .before .loop .y * c .before .before .before .before .args .geometry .width + c .before .before .before .before .args .geometry .width ≤ length (c .before .loop .workspace)
+fits : (c : tie.In-loop Inv-loop μ-loop) →
+    let a = c .before .before .before .before .args in a .at + c .before .loop .y * a .geometry .width + a .geometry .width ≤ length (c .before .loop .workspace)
 fits c =
     let s = c .before .before .before .before in
     let a = s .args in
-    fill-fits (a .geometry .width) (a .geometry .height) (pixel (now (a .src)) (a .geometry .stride)) (a .at) (now (a .workspace)) (s .pre .1) (c .before .loop .y) (c .before .loop .inv) (c .loop-test .taken)
+    fill-fits (a .geometry .width) (a .geometry .height) (pixel (now (a .src)) (a .geometry .stride)) (a .at) (now (a .workspace)) (s .pre .1)
+    (c .before .loop .y) (c .before .loop .inv) (c .loop-test .taken)
 
 -- and so does what the workspace was
-fits-before : (c : tie.In-loop Inv-loop μ-loop) → c .before .before .before .before .args .at + c .before .loop .y * c .before .before .before .before .args .geometry .width + c .before .before .before .before .args .geometry .width ≤ length (now (c .before .before .before .before .args .workspace))
+fits-before : (c : tie.In-loop Inv-loop μ-loop) →
+    let a = c .before .before .before .before .args in a .at + c .before .loop .y * a .geometry .width + a .geometry .width ≤ length (now (a .workspace))
 fits-before c =
     let s = c .before .before .before .before in
     let a = s .args in
-    omega (arith, fits c, fill-same (a .geometry .width) (a .geometry .height) (pixel (now (a .src)) (a .geometry .stride)) (a .at) (now (a .workspace)) (s .pre .1) (c .before .loop .y) (c .before .loop .inv))
+    omega (
+      arith,
+      fits c,
+      fill-same (a .geometry .width) (a .geometry .height) (pixel (now (a .src)) (a .geometry .stride)) (a .at) (now (a .workspace)) (s .pre .1)
+          (c .before .loop .y) (c .before .loop .inv),
+    )
 
 mul-to : tie.Need-mul-to Inv-loop μ-loop
 mul-to c = omega (arith, fits-before c)
@@ -60,7 +72,7 @@ copy-row-requires c κs =
     let s = i .before .before .before .before in
     let a = s .args in
     let to = a .at + i .before .loop .y * a .geometry .width in
-    row-long (now (a .src)) (a .geometry) (s .pre .0) (i .before .loop .y) (i .loop-test .taken) (now (c .before .row .result)) (c .before .row .ensures)
+    row-long (now (a .src)) (a .geometry) (s .pre .0) (i .before .loop .y) (i .loop-test .taken) (c .before .row .ensures .bytes)
     ∙ sym (lent-row to (a .geometry .width) (i .before .loop .workspace) (fits i))
 
 add-y : tie.Need-add-y Inv-loop μ-loop
@@ -77,23 +89,26 @@ loop-again c =
     let s = i .before .before .before .before in
     let a = s .args in
     let row = p .copy-row .last .1 .0 in
-    let e = p .copy-row .ensures ∙ r .row .ensures in
-    fill-next (a .geometry .width) (a .geometry .height) (pixel (now (a .src)) (a .geometry .stride)) (a .at) (now (a .workspace)) (s .pre .1) (i .before .loop .y) (i .before .loop .inv) (i .loop-test .taken) row (s .pre .0 .wide)
-    (row-long (now (a .src)) (a .geometry) (s .pre .0) (i .before .loop .y) (i .loop-test .taken) row e)
-    (row-pixel (now (a .src)) (a .geometry) (s .pre .0) (i .before .loop .y) (i .loop-test .taken) row e)
+    let e = p .copy-row .ensures ∙ r .row .ensures .bytes in
+    fill-next (a .geometry .width) (a .geometry .height) (pixel (now (a .src)) (a .geometry .stride)) (a .at) (now (a .workspace)) (s .pre .1)
+    (i .before .loop .y) (i .before .loop .inv) (i .loop-test .taken) row (s .pre .0 .wide)
+    (row-long (now (a .src)) (a .geometry) (s .pre .0) (i .before .loop .y) (i .loop-test .taken) e)
+    (row-pixel (now (a .src)) (a .geometry) (s .pre .0) (i .before .loop .y) (i .loop-test .taken) e)
 
 same-length : tie.Need-same-length Inv-loop μ-loop
 same-length c =
     let s = c .before .before .before .before in
     let a = s .args in
-    fill-same (a .geometry .width) (a .geometry .height) (pixel (now (a .src)) (a .geometry .stride)) (a .at) (now (a .workspace)) (s .pre .1) (c .before .loop .y) (c .before .loop .inv)
+    fill-same (a .geometry .width) (a .geometry .height) (pixel (now (a .src)) (a .geometry .stride)) (a .at) (now (a .workspace)) (s .pre .1)
+    (c .before .loop .y) (c .before .loop .inv)
 
 returns : tie.Need-returns Inv-loop μ-loop
 unfolding packed
 returns c =
     let s = c .before .before .before .before in
     let a = s .args in
-    fill-done (a .geometry .width) (a .geometry .height) (pixel (now (a .src)) (a .geometry .stride)) (a .at) (now (a .workspace)) (s .pre .1) (c .before .loop .y) (c .before .loop .inv) (c .loop-test .left)
+    fill-done (a .geometry .width) (a .geometry .height) (pixel (now (a .src)) (a .geometry .stride)) (a .at) (now (a .workspace)) (s .pre .1)
+    (c .before .loop .y) (c .before .loop .inv) (c .loop-test .left)
 
 pub pack-rows-spec : {M : Type 1} → statement M
 pack-rows-spec =

@@ -1,12 +1,10 @@
--- `row_mut` hands out the row's own bytes, or an empty part. Assumes nothing.
+-- `row_mut` hands out the row's own bytes where they stand, or an empty part. Assumes nothing.
 use borrow.Author.Needs.{needs}
 use native.Mathlib.Omega.{arith}
 use denote.Ref.{now}
 use lib.ListN.{length}
-use mathlib.Core.Path.{_∙_, ap}
-use native.Mathlib.Nat.{add-sub-cancel-left}
-use Prim.Native.Nat.{ℕ, _+_, _*_, _≤_}
-use Rattle.image.specs.Plane.{part}
+use mathlib.Core.Path.{refl}
+use Prim.Native.Nat.{_+_, _*_, _≤_}
 use Rattle.image.proofs.Places.{row-place, row-empty, row-found}
 use Rattle.image.proofs.row_mut.Statement.{statement}
 use Rattle.image.proofs.row_mut.Tie as tie
@@ -33,10 +31,12 @@ returns : tie.Need-returns
 returns c =
     let l = c .before .before .before in
     let a = l .before .before .args in
-    row-empty (now (a .«data»)) (a .geometry) (a .y) (l .check-row .ensures) (c .before .enum-told .given .1)
+    row-empty (a .«data») (a .geometry) (a .y) (l .check-row .ensures) (c .before .enum-told .given .1) refl refl
 
--- the row's place
-place : (c : tie.After-known-told) → (c .before .before .before .before .before .args .y) * (c .before .g .given .0 .0 .stride) + (c .before .g .given .0 .0 .width) ≤ length (now (c .before .before .before .before .before .args .«data»))
+-- the row lies in the slice
+place : (c : tie.After-known-told) →
+    (c .before .before .before .before .before .args .y) * (c .before .g .given .0 .0 .stride) + (c .before .g .given .0 .0 .width)
+    ≤ length (now (c .before .before .before .before .before .args .«data»))
 place c =
     let l = c .before .before .before in
     let a = l .before .before .args in
@@ -62,8 +62,7 @@ returns-2 c =
     let v = c .before .before .before .before in
     let l = v .before .before in
     let a = l .before .before .args in
-    ap (λ (n : ℕ). part (a .y * v .g .given .0 .0 .stride) n (now (a .«data»))) (add-sub-cancel-left (a .y * v .g .given .0 .0 .stride) (v .g .given .0 .0 .width))
-    ∙ row-found (now (a .«data»)) (a .geometry) (a .y) (l .check-row .ensures) (v .g .given .1)
+    row-found (a .«data») (a .geometry) (a .y) (l .check-row .ensures) (v .g .given .1) refl refl
 
 pub row-mut-spec : {M : Type 1} → statement M
 row-mut-spec =

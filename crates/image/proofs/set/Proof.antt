@@ -27,7 +27,9 @@ returns c =
     set-refused (now (a .«data»)) (a .geometry) (a .x) (a .y) (l .check-pixel .ensures) (a .value) (c .before .enum-told .given .1) (c .refusal .ensures)
 
 -- the pixel's place
-place : (c : tie.After-known-told) → (c .before .before .before .before .before .args .y) * (c .before .layout .given .0 .0 .stride) + (c .before .before .before .before .before .args .x) < length (now (c .before .before .before .before .before .args .«data»))
+place : (c : tie.After-known-told) →
+    (c .before .before .before .before .before .args .y) * (c .before .layout .given .0 .0 .stride) + (c .before .before .before .before .before .args .x)
+    < length (now (c .before .before .before .before .before .args .«data»))
 place c =
     let l = c .before .before .before in
     let a = l .before .before .args in

@@ -22,14 +22,17 @@ loop-holds : tie.Need-loop-holds Inv-loop μ-loop
 loop-holds c = rows-start _ _ _ _ _
 
 -- row y lies in the workspace
-from : (c : tie.In-loop Inv-loop μ-loop) → c .before .before .before .before .args .at + c .before .loop .y * c .before .before .before .before .args .geometry .width + c .before .before .before .before .args .geometry .width ≤ length (now (c .before .before .before .before .args .workspace))
+from : (c : tie.In-loop Inv-loop μ-loop) →
+    let a = c .before .before .before .before .args in a .at + c .before .loop .y * a .geometry .width + a .geometry .width ≤ length (now (a .workspace))
 from c =
     let s = c .before .before .before .before in
     let a = s .args in
     from-fits (now (a .workspace)) (a .at) (a .geometry .width) (a .geometry .height) (s .pre .1) (c .before .loop .y) (c .loop-test .taken)
 
 -- and in the destination
-to : (c : tie.In-loop Inv-loop μ-loop) → (c .before .loop .y * c .before .before .before .before .args .geometry .stride + c .before .before .before .before .args .geometry .width ≤ length (c .before .loop .dst)) × (length (c .before .loop .dst) ≡ length (now (c .before .before .before .before .args .dst)))
+to : (c : tie.In-loop Inv-loop μ-loop) →
+    let a = c .before .before .before .before .args in
+    (c .before .loop .y * a .geometry .stride + a .geometry .width ≤ length (c .before .loop .dst)) × (length (c .before .loop .dst) ≡ length (now (a .dst)))
 to c =
     let s = c .before .before .before .before in
     let k = s .pre .0 in (

@@ -38,21 +38,24 @@ returns-6 c =
     let f = c .before in
     let e = f .before .before in
     let s = e .before .before .before in
-    too-wide (s .args .len) (s .args .geometry) (e .before .before .if1 .left) (e .before .if2 .left) (e .if3 .left) (f .before .if4 .left) (f .if5 .left) (c .if6 .taken)
+    too-wide (s .args .len) (s .args .geometry) (e .before .before .if1 .left) (e .before .if2 .left) (e .if3 .left) (f .before .if4 .left) (f .if5 .left)
+    (c .if6 .taken)
 
 returns-7 : tie.Need-returns-7
 returns-7 c =
     let f = c .before .before in
     let e = f .before .before in
     let s = e .before .before .before in
-    too-high (s .args .len) (s .args .geometry) (e .before .before .if1 .left) (e .before .if2 .left) (e .if3 .left) (f .before .if4 .left) (f .if5 .left) (c .before .if6 .left) (c .if7 .taken)
+    too-high (s .args .len) (s .args .geometry) (e .before .before .if1 .left) (e .before .if2 .left) (e .if3 .left) (f .before .if4 .left) (f .if5 .left)
+    (c .before .if6 .left) (c .if7 .taken)
 
 returns-8 : tie.Need-returns-8
 returns-8 c =
     let f = c .before .before in
     let e = f .before .before in
     let s = e .before .before .before in
-    fits (s .args .len) (s .args .geometry) (e .before .before .if1 .left) (e .before .if2 .left) (e .if3 .left) (f .before .if4 .left) (f .if5 .left) (c .before .if6 .left) (c .if7 .left)
+    fits (s .args .len) (s .args .geometry) (e .before .before .if1 .left) (e .before .if2 .left) (e .if3 .left) (f .before .if4 .left) (f .if5 .left)
+    (c .before .if6 .left) (c .if7 .left)
 
 pub validate-layout-spec : {M : Type 1} → statement M
 validate-layout-spec =

@@ -1,8 +1,10 @@
 -- Tile counts in the code: what the loops over all tiles of a grid need. Assumes nothing.
 use mathlib.Core.Path.{_≡_, ap₂}
 use Prim.Native.Nat.{ℕ, _*_, _/_, _%_, _≤_, _<_}
-use native.Mathlib.Nat.{mul-le-mul, mod-lt, div-lt-iff-lt-mul, mul-comm}
+use native.Mathlib.Nat.{mod-lt, div-lt-iff-lt-mul, mul-comm}
 use native.Mathlib.Omega.{arith}
+use Rattle.image.specs.Layout.{areaLimit}
+use Rattle.image.specs.LayoutLaws.{sides-small}
 use Rattle.imgproc.specs.declared.grid.TileThresholdConfig.{TileThresholdConfig}
 use Rattle.imgproc.specs.Grid.{tilesX, tilesY}
 use Rattle.imgproc.specs.GridLaws.{ceiling-small, ceiling-some}
@@ -15,9 +17,9 @@ module _ {g : TileThresholdConfig} {w h : ℕ} (z : Sized g w h) {tx ty : ℕ} (
   pub some : 0 < tx
   some = omega (arith, ceiling-some w (g .«tile_width») (z .tile-width) (z .wide))
 
-  pub few : tx * ty ≤ 16777216
+  pub few : tx * ty ≤ areaLimit
   few =
-      mul-le-mul {n₁ = tx} {m₁ = ty} {n₂ = 4096} {m₂ = 4096}
+      sides-small tx ty
       (omega (arith, ceiling-small w (g .«tile_width») (z .tile-width), z .small-width))
       (omega (arith, ceiling-small h (g .«tile_height») (z .tile-height), z .small-height))
 

@@ -3,6 +3,7 @@ use mathlib.Core.Path.{_≡_, sym, ap, _∙_}
 use Prim.Native.Nat.{ℕ, zero, suc, _+_, _-_, _*_, _≤_, _<_}
 use native.Mathlib.Nat.{le-trans, sub-self, mul-le-mul-right}
 use native.Mathlib.Omega.{arith}
+use Rattle.image.specs.Layout.{sideLimit, areaLimit}
 use Rattle.imgproc.specs.declared.tiles.TileNumbers.{TileNumbers}
 use Rattle.imgproc.specs.Tiles.{joined, joinFrom, joinOver, Small}
 
@@ -24,7 +25,14 @@ pub record Under (K : ℕ) (n : TileNumbers) : Type 0 where
   pub sumSq : n .«sum_sq» ≤ K
   pub count : n .count ≤ K
 
-pub small-under : {n : TileNumbers} → Small n → Under 1090938470400 n
+-- of the bytes of one picture, and of a tile row of such
+abbrev pub most : ℕ
+most = 65025 * areaLimit
+
+abbrev pub rowMost : ℕ
+rowMost = sideLimit * most
+
+pub small-under : {n : TileNumbers} → Small n → Under most n
 small-under s = record { sum = omega arith; sumSq = omega arith; count = omega arith }
 
 from-under : (K : ℕ) (n : ℕ → TileNumbers) (a k : ℕ) → ((i : ℕ) → a ≤ i → i ≤ a + k → Under K (n i)) → Under (suc k * K) (joinFrom n a k)

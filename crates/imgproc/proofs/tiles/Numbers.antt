@@ -3,15 +3,18 @@ use mathlib.Core.Path.{_≡_, refl, sym, ap, _∙_, subst}
 use Prim.Native.Nat.{ℕ, zero, suc, _+_, _-_, _*_, _≤_, _<_, min, max}
 use native.Mathlib.Nat.{le-trans, mul-le-mul, mul-le-mul-right}
 use native.Mathlib.Omega.{arith}
+use Rattle.image.specs.Layout.{sideLimit}
 use Rattle.imgproc.specs.declared.tiles.TileNumbers.{TileNumbers}
 use Rattle.imgproc.specs.Fold.{foldFrom, foldOver, Box, foldBox}
 use Rattle.imgproc.specs.Extremes.{Some, lowest, highest, fold-box-extreme}
 use Rattle.imgproc.specs.Tiles.{numbersIn, lineNumbers, joined, Small}
-use Rattle.imgproc.proofs.Folds.{Joining, running, running-none, running-more, running-all, running-small, fold-one, box-below, box-beside, box-same}
+use Rattle.imgproc.proofs.Folds.{Joining, running, running-none, running-more, running-all, running-small, fold-one, fold-same, box-below, box-beside, box-same}
 
 -- numbers are equal field by field
 pub same : (a b : TileNumbers) → a .minimum ≡ b .minimum → a .maximum ≡ b .maximum → a .sum ≡ b .sum → a .«sum_sq» ≡ b .«sum_sq» → a .count ≡ b .count → a ≡ b
-same a b p q r s t = let e : numbers (a .minimum) (a .maximum) (a .sum) (a .«sum_sq») (a .count) ≡ numbers (b .minimum) (b .maximum) (b .sum) (b .«sum_sq») (b .count) = cc in e
+same a b p q r s t =
+    let e : numbers (a .minimum) (a .maximum) (a .sum) (a .«sum_sq») (a .count) ≡ numbers (b .minimum) (b .maximum) (b .sum) (b .«sum_sq») (b .count) = cc in
+    e
   where
     numbers : ℕ → ℕ → ℕ → ℕ → ℕ → TileNumbers
     numbers m M s q c = record { minimum = m; maximum = M; sum = s; «sum_sq» = q; count = c }
@@ -63,7 +66,8 @@ module _ {f : ℕ → ℕ} {left x m M s q : ℕ} (c : Scanned f left x m M s q)
     sumSq-small = omega (arith, c .sumSq, running-small 65025 (λ k. f k * f k) left square (x - left))
 
     -- at the end of the row they are the row's
-    pub scanned-all : (right : ℕ) → right ≤ x → x ≤ right → left < right → record { minimum = m; maximum = M; sum = s; «sum_sq» = q; count = right - left } ≡ lineNumbers f left (right - 1)
+    pub scanned-all : (right : ℕ) → right ≤ x → x ≤ right → left < right
+        → record { minimum = m; maximum = M; sum = s; «sum_sq» = q; count = right - left } ≡ lineNumbers f left (right - 1)
     scanned-all right p r l =
         same _ _
         (c .minimum ∙ running-all min 255 f left (omega (arith, bytes left)) x right p r l)
@@ -83,6 +87,16 @@ most-joins = record { assoc = λ a b c. omega arith; comm = λ a b. omega arith 
 sums-join : Joining _+_
 sums-join = record { assoc = λ a b c. omega arith; comm = λ a b. omega arith }
 
+-- lines that agree
+pub same-line : (f g : ℕ → ℕ) (l r : ℕ) → l ≤ r → ((i : ℕ) → i ≤ r → f i ≡ g i) → lineNumbers f l r ≡ lineNumbers g l r
+same-line f g l r t e =
+    same _ _
+    (fold-same min f g l r t (λ i p q. e i q))
+    (fold-same max f g l r t (λ i p q. e i q))
+    (fold-same _+_ f g l r t (λ i p q. e i q))
+    (fold-same _+_ (λ i. f i * f i) (λ i. g i * g i) l r t (λ i p q. ap (λ (k : ℕ). k * k) (e i q)))
+    refl
+
 -- a box of one row
 pub one-row : (f : ℕ → ℕ → ℕ) (l r y : ℕ) → lineNumbers (λ x. f x y) l r ≡ numbersIn f (record { left = l; right = r; top = y; bottom = y })
 unfolding foldBox
@@ -94,7 +108,9 @@ one-row f l r y =
     (sym (fold-one _+_ (λ k. foldOver _+_ (λ x. f x k * f x k) l r) y))
     (sym (fold-one _+_ (λ k. foldOver _+_ (λ x. 1) l r) y))
 
-pub below : (f : ℕ → ℕ → ℕ) (l r t m b : ℕ) → t ≤ m → m < b → numbersIn f (record { left = l; right = r; top = t; bottom = b }) ≡ joined (numbersIn f (record { left = l; right = r; top = t; bottom = m })) (numbersIn f (record { left = l; right = r; top = m + 1; bottom = b }))
+pub below : (f : ℕ → ℕ → ℕ) (l r t m b : ℕ) → t ≤ m → m < b
+    → numbersIn f (record { left = l; right = r; top = t; bottom = b })
+    ≡ joined (numbersIn f (record { left = l; right = r; top = t; bottom = m })) (numbersIn f (record { left = l; right = r; top = m + 1; bottom = b }))
 below f l r t m b p q =
     same _ _
     (box-below min least-joins f l r t m b p q)
@@ -103,7 +119,9 @@ below f l r t m b p q =
     (box-below _+_ sums-join (λ x y. f x y * f x y) l r t m b p q)
     (box-below _+_ sums-join (λ x y. 1) l r t m b p q)
 
-pub beside : (f : ℕ → ℕ → ℕ) (l m r t b : ℕ) → l ≤ m → m < r → t ≤ b → numbersIn f (record { left = l; right = r; top = t; bottom = b }) ≡ joined (numbersIn f (record { left = l; right = m; top = t; bottom = b })) (numbersIn f (record { left = m + 1; right = r; top = t; bottom = b }))
+pub beside : (f : ℕ → ℕ → ℕ) (l m r t b : ℕ) → l ≤ m → m < r → t ≤ b
+    → numbersIn f (record { left = l; right = r; top = t; bottom = b })
+    ≡ joined (numbersIn f (record { left = l; right = m; top = t; bottom = b })) (numbersIn f (record { left = m + 1; right = r; top = t; bottom = b }))
 beside f l m r t b p q s =
     same _ _
     (box-beside min least-joins f l m r t b p q s)
@@ -129,15 +147,17 @@ unfolding foldFrom
 from-small K f s a zero = omega (arith, s a)
 from-small K f s a (suc n) = omega (arith, from-small K f s a n, s (a + suc n))
 
-box-small : (K : ℕ) (f : ℕ → ℕ → ℕ) → ((x y : ℕ) → f x y ≤ K) → (b : Box) → b .right ≤ b .left + 4095 → b .bottom ≤ b .top + 4095 → foldBox _+_ f b ≤ 4096 * (4096 * K)
+box-small : (K : ℕ) (f : ℕ → ℕ → ℕ) → ((x y : ℕ) → f x y ≤ K) → (b : Box) → b .right < b .left + sideLimit → b .bottom < b .top + sideLimit
+    → foldBox _+_ f b ≤ sideLimit * (sideLimit * K)
 unfolding foldBox foldOver
 box-small K f s b p q =
-    let row : (y : ℕ) → foldFrom _+_ (λ x. f x y) (b .left) (b .right - b .left) ≤ 4096 * K = λ y.
+    let row : (y : ℕ) → foldFrom _+_ (λ x. f x y) (b .left) (b .right - b .left) ≤ sideLimit * K = λ y.
     le-trans (from-small K (λ x. f x y) (λ x. s x y) (b .left) (b .right - b .left)) (mul-le-mul-right K (omega arith)) in
-    le-trans (from-small (4096 * K) _ row (b .top) (b .bottom - b .top)) (mul-le-mul-right (4096 * K) (omega arith))
+    le-trans (from-small (sideLimit * K) _ row (b .top) (b .bottom - b .top)) (mul-le-mul-right (sideLimit * K) (omega arith))
 
--- the numbers of at most 4096 by 4096 bytes are small
-pub small : (f : ℕ → ℕ → ℕ) → ((x y : ℕ) → f x y < 256) → (b : Box) → Some b → b .right ≤ b .left + 4095 → b .bottom ≤ b .top + 4095 → Small (numbersIn f b)
+-- the numbers of as many bytes as a picture has are small
+pub small : (f : ℕ → ℕ → ℕ) → ((x y : ℕ) → f x y < 256) → (b : Box) → Some b → b .right < b .left + sideLimit → b .bottom < b .top + sideLimit
+    → Small (numbersIn f b)
 small f bytes b s p q =
     let m = fold-box-extreme lowest f b s in
     let M = fold-box-extreme highest f b s in

@@ -10,9 +10,11 @@ use denote.Ref.{now}
 use Rattle.image.specs.declared.Geometry.{Geometry}
 use Rattle.image.specs.Layout.{Kept, rowLayout}
 use Rattle.image.specs.Row.{rowIn}
-use Rattle.image.specs.Plane.{pixel, packed, plane, part, tabulate, overwritten}
-use Rattle.image.specs.PlaneLaws.{length-tabulate, getD-tabulate, getD-part, pixel-packed, in-plane, plane-same}
-use Rattle.image.specs.FillLaws.{Filled, fill-start, fill-same, fill-done, fill-fits, fill-ahead, fill-next, lent-row, row-long, row-pixel}
+use Rattle.image.specs.Plane.{pixel, picture, plane, part, tabulate, overwritten}
+use Rattle.image.specs.PlaneLaws.{length-tabulate, getD-tabulate, getD-part, in-plane, plane-same}
+use Rattle.image.specs.Views.{pixel-picture}
+use Rattle.image.specs.FillLaws.{Filled, fill-start, fill-same, fill-done, fill-fits, fill-ahead, fill-next, lent-row}
+use Rattle.image.specs.RowLaws.{row-long, row-pixel}
 use Rattle.imgproc.specs.declared.illumination.BackgroundDivideConfig.{BackgroundDivideConfig}
 use Rattle.imgproc.specs.Division.{quotient, dividedBy}
 use Rattle.imgproc.proofs.illumination.divide_plane.Statement.{statement}
@@ -72,7 +74,7 @@ divide-row-requires c κs =
     let a = s .args in
     let to = a .at + i .before .loop .y * a .geometry .width in (
       s .pre .0,
-      row-long (now (a .src)) (a .geometry) (s .pre .1 .0) (i .before .loop .y) (i .loop-test .taken) (now (c .before .row .result)) (c .before .row .ensures)
+      row-long (now (a .src)) (a .geometry) (s .pre .1 .0) (i .before .loop .y) (i .loop-test .taken) (c .before .row .ensures .bytes)
           ∙ sym (lent-row to (a .geometry .width) (i .before .loop .workspace) (fits i .0)),
     )
 
@@ -112,7 +114,7 @@ module _ (config : BackgroundDivideConfig) (g : Geometry) (at : ℕ) (src d : Li
         λ x u.
             ap (λ (z : List ℕ). getD z x 0) e
             ∙ getD-tabulate f (length back) x (omega (arith, size))
-            ∙ ap₂ (quotient config) (row-pixel src g k y t row own x u) (back-at x u),
+            ∙ ap₂ (quotient config) (row-pixel src g k y t own x u) (back-at x u),
       )
 
 loop-again : tie.Need-loop-again Inv-loop μ-loop
@@ -123,7 +125,7 @@ loop-again c =
     let i = r .before in
     let s = i .before .before .before .before in
     let a = s .args in
-    let n = next (a .config) (a .geometry) (a .at) (now (a .src)) (now (a .workspace)) (s .pre .1 .0) (s .pre .1 .1) (i .before .loop .y) (i .loop-test .taken) (i .before .loop .inv) (now (r .row .result)) (r .row .ensures) (p .divide-row .ensures) in
+    let n = next (a .config) (a .geometry) (a .at) (now (a .src)) (now (a .workspace)) (s .pre .1 .0) (s .pre .1 .1) (i .before .loop .y) (i .loop-test .taken) (i .before .loop .inv) (now (r .row .result)) (r .row .ensures .bytes) (p .divide-row .ensures) in
     fill-next (a .geometry .width) (a .geometry .height) (value (a .config) (a .geometry) (a .at) (now (a .src)) (now (a .workspace))) (a .at) (now (a .workspace)) (s .pre .1 .1) (i .before .loop .y) (i .before .loop .inv) (i .loop-test .taken) (p .divide-row .last .1 .0) (s .pre .1 .0 .wide) (n .0) (n .1)
 
 same-length : tie.Need-same-length Inv-loop μ-loop
@@ -133,12 +135,12 @@ same-length c =
     fill-same (a .geometry .width) (a .geometry .height) (value (a .config) (a .geometry) (a .at) (now (a .src)) (now (a .workspace))) (a .at) (now (a .workspace)) (s .pre .1 .1) (c .before .loop .y) (c .before .loop .inv)
 
 -- the plane of these values is the packed source divided by the packed backgrounds
-is-divided : (config : BackgroundDivideConfig) (g : Geometry) (at : ℕ) (src d : List ℕ) → 0 < g .width → at + g .width * g .height ≤ length d → plane (g .width) (g .height) (value config g at src d) ≡ dividedBy config (g .width) (g .height) (packed src (g .width) (g .height) (g .stride)) (part at (g .width * g .height) d)
+is-divided : (config : BackgroundDivideConfig) (g : Geometry) (at : ℕ) (src d : List ℕ) → 0 < g .width → at + g .width * g .height ≤ length d → plane (g .width) (g .height) (value config g at src d) ≡ dividedBy config (g .width) (g .height) (picture src g) (part at (g .width * g .height) d)
 unfolding dividedBy
 is-divided config g at src d W room =
     plane-same (g .width) (g .height) (value config g at src d) _ W
     (λ x y X Y.
-    ap₂ (quotient config) (sym (pixel-packed src (g .width) (g .height) (g .stride) x y X Y))
+    ap₂ (quotient config) (sym (pixel-picture src g x y X Y))
     (sym (getD-part at (g .width * g .height) d room (y * g .width + x) (in-plane (g .width) (g .height) x y X Y))))
 
 returns : tie.Need-returns Inv-loop μ-loop

@@ -7,9 +7,10 @@ use mathlib.Core.Path.{_≡_, _∙_}
 use lib.ListN.{length, getD, length-set}
 use denote.Ref.{now}
 use Rattle.image.specs.Layout.{sideLimit}
+use Rattle.image.specs.RowLaws.{row-long, row-picture}
 use Rattle.imgproc.specs.Sums.{squared}
 use Rattle.imgproc.specs.Tables.{pixelsOf}
-use Rattle.imgproc.proofs.TableLaws.{RowSoFar, rows-fit, row-long, row-pixel, pixel-byte, box-small, row-start, row-end, row-step, above-sum, above-square, s-small, q-small}
+use Rattle.imgproc.proofs.TableLaws.{RowSoFar, rows-fit, pixel-byte, box-small, row-start, row-end, row-step, above-sum, above-square, s-small, q-small}
 use Rattle.imgproc.proofs.tables.table_row.Statement.{statement}
 use Rattle.imgproc.proofs.tables.table_row.Tie as tie
 
@@ -39,7 +40,7 @@ bytes t = pixel-byte (now (start t .args .src)) (start t .args .geometry) (λ i.
 value-is : (t : tie.Then1 Inv-loop μ-loop) → getD (now (t .before .before .before .row .result)) (t .before .before .loop .x) 0 ≡ pixels (start t) (t .before .before .loop .x) (start t .args .y)
 value-is t =
     let s = start t in
-    row-pixel (now (s .args .src)) (s .args .geometry) (s .pre .0) (s .args .y) (s .pre .1 .0) (t .before .before .before .row .ensures) (t .before .before .loop .x) (t .if1 .taken)
+    row-picture (now (s .args .src)) (s .args .geometry) (s .pre .0) (s .args .y) (s .pre .1 .0) (t .before .before .before .row .ensures .bytes) (t .before .before .loop .x) (t .if1 .taken)
 
 -- it and its square are small
 value-small : (t : tie.Then1 Inv-loop μ-loop) → let v = getD (now (t .before .before .before .row .result)) (t .before .before .loop .x) 0 in (v ≤ 255) × (v * v ≤ 65025)
@@ -131,7 +132,7 @@ shared-slice-read-value : tie.Need-shared-slice-read-value Inv-loop μ-loop
 shared-slice-read-value c =
     let t = c .before in
     let s = start t in
-    omega (arith, row-long (now (s .args .src)) (s .args .geometry) (s .pre .0) (s .args .y) (s .pre .1 .0) (t .before .before .before .row .ensures), t .if1 .taken)
+    omega (arith, row-long (now (s .args .src)) (s .args .geometry) (s .pre .0) (s .args .y) (s .pre .1 .0) (t .before .before .before .row .ensures .bytes), t .if1 .taken)
 
 cast-value : tie.Need-cast-value Inv-loop μ-loop
 cast-value c = omega (arith, value-small (c .before))

@@ -7,7 +7,7 @@ use denote.Ref.{now}
 use Rattle.image.specs.Plane.{picture}
 use Rattle.imgproc.specs.Sauvola.{verdict}
 use Rattle.imgproc.specs.Tables.{pixelsOf}
-use Rattle.imgproc.proofs.TableLaws.{row-long, row-pixel}
+use Rattle.image.specs.RowLaws.{row-long, row-picture}
 use Rattle.imgproc.proofs.VerdictLaws.{Filled, filled-none, filled-more, verdict-dark, verdict-light}
 use Rattle.imgproc.proofs.threshold.verdict_row.Statement.{statement}
 use Rattle.imgproc.proofs.threshold.verdict_row.Tie as tie
@@ -26,12 +26,12 @@ start t = t .before .before .before .before .before .before .before
 long : (t : tie.Then1 Inv-loop μ-loop) → length (now (t .before .before .before .row .result)) ≡ start t .args .geometry .width
 long t =
     let s = start t in
-    row-long (now (s .args .src)) (s .args .geometry) (s .pre .0 .layout) (s .args .y) (s .pre .1 .0) (t .before .before .before .row .ensures)
+    row-long (now (s .args .src)) (s .args .geometry) (s .pre .0 .layout) (s .args .y) (s .pre .1 .0) (t .before .before .before .row .ensures .bytes)
 
 value-is : (t : tie.Then1 Inv-loop μ-loop) → getD (now (t .before .before .before .row .result)) (t .before .before .loop .next) 0 ≡ pixelsOf (now (start t .args .src)) (start t .args .geometry) (t .before .before .loop .next) (start t .args .y)
 value-is t =
     let s = start t in
-    row-pixel (now (s .args .src)) (s .args .geometry) (s .pre .0 .layout) (s .args .y) (s .pre .1 .0) (t .before .before .before .row .ensures) (t .before .before .loop .next) (t .if1 .taken)
+    row-picture (now (s .args .src)) (s .args .geometry) (s .pre .0 .layout) (s .args .y) (s .pre .1 .0) (t .before .before .before .row .ensures .bytes) (t .before .before .loop .next) (t .if1 .taken)
 
 row-requires : tie.Need-row-requires Inv-loop μ-loop
 row-requires c κs = tt

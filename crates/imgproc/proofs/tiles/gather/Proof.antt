@@ -1,109 +1,41 @@
--- `gather` meets its contract. The invariant: the tiles passed are stored. Assumes nothing.
-use Prim.Native.Nat.{ℕ, _-_, _/_, _%_, _≤_}
-use mathlib.Core.Path.{ap, _∙_}
-use native.Mathlib.Omega.{arith}
-use Rattle.image.specs.Plane.{pixel}
-use Rattle.imgproc.specs.Grid.{tilesX}
-use Rattle.imgproc.specs.Tiles.{numbersIn, tile}
-use Rattle.imgproc.proofs.tiles.Counts.{total, some, few, column, row}
-use Rattle.imgproc.proofs.tiles.Gathering.{StoredTo, stored-none, stored-more, gathered-all}
+-- `gather` opens the layout, which is valid, and gathers the tiles. Assumes nothing.
+use mathlib.Core.Path.{sym, _∙_}
 use borrow.Author.Needs.{needs}
+use Rattle.image.specs.LayoutLaws.{kept-taken}
 use Rattle.imgproc.proofs.tiles.gather.Statement.{statement}
 use Rattle.imgproc.proofs.tiles.gather.Tie as tie
 
-abbrev Inv-loop : tie.InvT-loop
-Inv-loop src geometry config workspace₀ at tiles-x tiles-y total t₀ workspace t = (t ≤ total) × StoredTo (λ k. numbersIn (pixel src (geometry .stride)) (tile config (geometry .width) (geometry .height) (k % tilesX config (geometry .width)) (k / tilesX config (geometry .width)))) at t workspace₀ workspace
+validate-layout-requires : tie.Need-validate-layout-requires
+validate-layout-requires c κs = search needs
 
-abbrev μ-loop : tie.MeasureT-loop
-μ-loop src geometry config workspace₀ at tiles-x tiles-y total t₀ workspace t = total - t
+enum-told : tie.Need-enum-told
+enum-told c = search needs
 
-tiles-requires : tie.Need-tiles-requires Inv-loop μ-loop
-tiles-requires c κs = search needs
+enum-told-2 : tie.Need-enum-told-2
+enum-told-2 c = search needs
 
-tiles-requires-2 : tie.Need-tiles-requires-2 Inv-loop μ-loop
-tiles-requires-2 c κs = search needs
-
-mul-total : tie.Need-mul-total Inv-loop μ-loop
-mul-total c = omega (arith, few (c .before .before .before .before .pre .1) (c .before .tiles .ensures) (c .tiles2 .ensures))
-
-loop-holds : tie.Need-loop-holds Inv-loop μ-loop
-loop-holds c = (omega arith, stored-none _ _ _)
-
-rem-tile-numbers : tie.Need-rem-tile-numbers Inv-loop μ-loop
-rem-tile-numbers c = let k = c .before .before in some (k .before .before .before .before .pre .1) (k .before .tiles .ensures) (k .tiles2 .ensures)
-
-div-tile-numbers : tie.Need-div-tile-numbers Inv-loop μ-loop
-div-tile-numbers c = let k = c .before .before in some (k .before .before .before .before .pre .1) (k .before .tiles .ensures) (k .tiles2 .ensures)
-
-tile-numbers-requires : tie.Need-tile-numbers-requires Inv-loop μ-loop
-tile-numbers-requires c κs =
-    let k = c .before .before in
-    let s = k .before .before .before .before in
-    (s .pre .0, s .pre .1, column (k .before .before .before .before .pre .1) (k .before .tiles .ensures) (k .tiles2 .ensures) (c .before .loop .t), row (k .before .before .before .before .pre .1) (k .before .tiles .ensures) (k .tiles2 .ensures) (c .before .loop .t) (c .loop-test .taken))
-
-mul-store : tie.Need-mul-store Inv-loop μ-loop
-mul-store c = let k = c .before .before .before .before in omega (arith, few (k .before .before .before .before .pre .1) (k .before .tiles .ensures) (k .tiles2 .ensures), c .before .before .loop-test .taken)
-
-add-store : tie.Need-add-store Inv-loop μ-loop
-add-store c =
-    let k = c .before .before .before .before in
-    omega (arith, few (k .before .before .before .before .pre .1) (k .before .tiles .ensures) (k .tiles2 .ensures), total (k .before .before .before .before .pre .1) (k .before .tiles .ensures) (k .tiles2 .ensures), c .before .before .loop-test .taken, k .before .before .before .before .pre .2)
-
-store-requires : tie.Need-store-requires Inv-loop μ-loop
-store-requires c κs =
-    let k = c .before .before .before .before in
-    omega (arith, total (k .before .before .before .before .pre .1) (k .before .tiles .ensures) (k .tiles2 .ensures), c .before .before .loop-test .taken, k .before .before .before .before .pre .2, c .before .before .before .loop .inv .1 .long)
-
-add-t : tie.Need-add-t Inv-loop μ-loop
-add-t c =
-    let i = c .before .before .before .before .before in
-    let k = i .before .before in omega (arith, few (k .before .before .before .before .pre .1) (k .before .tiles .ensures) (k .tiles2 .ensures), i .loop-test .taken)
-
-loop-less : tie.Need-loop-less Inv-loop μ-loop
-loop-less c = search needs
-
-loop-again : tie.Need-loop-again Inv-loop μ-loop
-loop-again c =
-    let k = c .before .before .before .before .before .before .before in
-    let s = k .before .before .before .before .args in
-    let l = c .before .before .before .before .before .before .loop in
-    let e =
-    c .before .before .before .before .tile-numbers .ensures
-    ∙ ap (λ (n : ℕ). numbersIn (pixel (s .src .now) (s .geometry .stride)) (tile (s .config) (s .geometry .width) (s .geometry .height) (l .t % n) (l .t / n))) (k .before .tiles .ensures) in
-    (omega (arith, c .before .before .before .before .before .loop-test .taken), stored-more _ _ (l .t) _ (l .workspace) _ _ (l .inv .1) e (c .before .before .store .ensures))
-
-same-length : tie.Need-same-length Inv-loop μ-loop
-same-length c = search needs
-
-returns : tie.Need-returns Inv-loop μ-loop
+returns : tie.Need-returns
 returns c =
-    let k = c .before .before in
-    let s = k .before .before .before .before in
-    let l = c .before .loop in
-    gathered-all (s .args .src .now) (s .args .geometry) (s .args .config) (s .args .at) (l .t) _ (l .workspace)
-    (λ i. omega (arith, k .before .before .before .shared-slice-known .given i))
-    (s .pre .2)
-    (omega (arith, total (k .before .before .before .before .pre .1) (k .before .tiles .ensures) (k .tiles2 .ensures), l .inv .0, c .loop-test .left))
-    (l .inv .1)
+    let l = c .before .before in
+    absurd (kept-taken (l .before .before .before .pre .0) (sym (l .validate-layout .ensures) ∙ c .enum-told2 .given .1))
+
+gather-tiles-requires : tie.Need-gather-tiles-requires
+gather-tiles-requires c κs = c .before .before .before .before .before .before .pre
+
+same-length : tie.Need-same-length
+same-length c = c .before .before .gather-tiles .ensures .long
+
+returns-2 : tie.Need-returns-2
+returns-2 c = c .before .before .gather-tiles .ensures
 
 pub gather-spec : {M : Type 1} → statement M
 gather-spec =
     tie.close
     (tie.spec
-    Inv-loop
-    μ-loop
-    tiles-requires
-    tiles-requires-2
-    mul-total
-    loop-holds
-    rem-tile-numbers
-    div-tile-numbers
-    tile-numbers-requires
-    mul-store
-    add-store
-    store-requires
-    add-t
-    loop-less
-    loop-again
+    validate-layout-requires
+    enum-told
+    enum-told-2
+    returns
+    gather-tiles-requires
     same-length
-    returns)
+    returns-2)

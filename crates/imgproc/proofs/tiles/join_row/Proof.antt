@@ -4,7 +4,8 @@ use mathlib.Core.Path.{_≡_, sym, ap, ap₂, _∙_, subst}
 use native.Mathlib.Omega.{arith}
 use Rattle.imgproc.specs.declared.tiles.TileNumbers.{TileNumbers}
 use Rattle.imgproc.specs.Tiles.{entry, joined, joinOver}
-use Rattle.imgproc.proofs.tiles.Joins.{join-one, join-next, Under, small-under, join-under}
+use Rattle.image.specs.Layout.{sideLimit}
+use Rattle.imgproc.proofs.tiles.Joins.{join-one, join-next, Under, most, small-under, join-under}
 use borrow.Author.Needs.{needs}
 use Rattle.imgproc.proofs.tiles.join_row.Statement.{statement}
 use Rattle.imgproc.proofs.tiles.join_row.Tie as tie
@@ -55,9 +56,10 @@ unfolding entries
 join-requires c κs =
     let s = c .before .before .before .before .before in
     let l = c .before .before .loop in
-    let u = subst (Under (suc (l .i - 1 - s .args .from) * 1090938470400)) (sym (l .inv .2)) (join-under 1090938470400 (entries s) (s .args .from) (l .i - 1) (omega arith) (λ i p q. small-under (s .pre .2 .each i (omega arith)))) in
-    let v = subst (Under 1090938470400) (sym (c .load2 .ensures)) (small-under (s .pre .2 .each (l .i) (c .before .loop-test .taken))) in
-    let few : l .i - s .args .from ≤ 4096 = omega (arith, s .pre .1) in
+    let u = subst (Under (suc (l .i - 1 - s .args .from) * most)) (sym (l .inv .2))
+    (join-under most (entries s) (s .args .from) (l .i - 1) (omega arith) (λ i p q. small-under (s .pre .2 .each i (omega arith)))) in
+    let v = subst (Under most) (sym (c .load2 .ensures)) (small-under (s .pre .2 .each (l .i) (c .before .loop-test .taken))) in
+    let few : l .i - s .args .from ≤ sideLimit = omega (arith, s .pre .1) in
     (omega (arith, u .sum, v .sum), omega (arith, u .sumSq, v .sumSq), omega (arith, u .count, v .count))
 
 add-i-2 : tie.Need-add-i-2 Inv-loop μ-loop
@@ -71,8 +73,14 @@ unfolding entries
 loop-again c =
     let s = c .before .before .before .before .before .before in
     let l = c .before .before .before .loop in
-    let e : l .i + 1 - 1 ≡ l .i = omega arith in
-    (omega arith, omega arith, c .join .ensures ∙ ap₂ joined (l .inv .2) (c .before .load2 .ensures) ∙ join-next (entries s) (s .args .from) (l .i) (l .inv .0) ∙ ap (joinOver (entries s) (s .args .from)) (sym e))
+    let e : l .i + 1 - 1 ≡ l .i = omega arith in (
+      omega arith,
+      omega arith,
+      c .join .ensures
+          ∙ ap₂ joined (l .inv .2) (c .before .load2 .ensures)
+          ∙ join-next (entries s) (s .args .from) (l .i) (l .inv .0)
+          ∙ ap (joinOver (entries s) (s .args .from)) (sym e),
+    )
 
 returns : tie.Need-returns Inv-loop μ-loop
 unfolding entries

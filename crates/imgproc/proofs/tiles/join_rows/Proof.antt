@@ -6,13 +6,15 @@ use native.Mathlib.Omega.{arith}
 use lib.ListN.{length}
 use Rattle.imgproc.specs.declared.tiles.TileNumbers.{TileNumbers}
 use Rattle.imgproc.specs.Tiles.{tileEntry, joined, joinOver, SmallRow}
-use Rattle.imgproc.proofs.tiles.Joins.{join-one, join-next, Under, small-under, join-under, under-more}
+use Rattle.image.specs.Layout.{sideLimit}
+use Rattle.imgproc.proofs.tiles.Joins.{join-one, join-next, Under, most, rowMost, small-under, join-under, under-more}
 use borrow.Author.Needs.{needs}
 use Rattle.imgproc.proofs.tiles.join_rows.Statement.{statement}
 use Rattle.imgproc.proofs.tiles.join_rows.Tie as tie
 
 abbrev Inv-loop : tie.InvT-loop
-Inv-loop workspace at tiles-x from to first last numbers₀ j₀ numbers j = (first < j) × (j ≤ last + 1) × (numbers ≡ joinOver (λ b. joinOver (λ a. tileEntry at tiles-x workspace a b) from to) first (j - 1))
+Inv-loop workspace at tiles-x from to first last numbers₀ j₀ numbers j =
+    (first < j) × (j ≤ last + 1) × (numbers ≡ joinOver (λ b. joinOver (λ a. tileEntry at tiles-x workspace a b) from to) first (j - 1))
 
 abbrev μ-loop : tie.MeasureT-loop
 μ-loop workspace at tiles-x from to first last numbers₀ j₀ numbers j = last + 1 - j
@@ -22,19 +24,23 @@ row : tie.Start Inv-loop μ-loop → ℕ → TileNumbers
 row s j = joinOver (λ a. tileEntry (s .args .at) (s .args .tiles-x) (s .args .workspace .now) a j) (s .args .from) (s .args .to)
 
 -- it lies in the workspace
-within : (s : tie.Start Inv-loop μ-loop) (j : ℕ) → j ≤ s .args .last → s .args .at + 5 * (j * s .args .tiles-x) + 5 * s .args .to + 5 ≤ length (s .args .workspace .now)
+within : (s : tie.Start Inv-loop μ-loop) (j : ℕ) → j ≤ s .args .last
+    → s .args .at + 5 * (j * s .args .tiles-x) + 5 * s .args .to + 5 ≤ length (s .args .workspace .now)
 within s j t =
-    omega (arith, s .pre .1, s .pre .3 .room, mul-le-mul-right {m = suc j} {n = s .args .last + 1} (s .args .tiles-x) (omega arith), suc-mul j (s .args .tiles-x), mul-comm (s .args .tiles-x) (s .args .last + 1))
+    let rows = mul-le-mul-right {m = suc j} {n = s .args .last + 1} (s .args .tiles-x) (omega arith) in
+    omega (arith, s .pre .1, s .pre .3 .room, suc-mul j (s .args .tiles-x), mul-comm (s .args .tiles-x) (s .args .last + 1))
 
 -- and is small
-row-small : (s : tie.Start Inv-loop μ-loop) (j : ℕ) → j ≤ s .args .last → SmallRow (s .args .at + 5 * (j * s .args .tiles-x)) (s .args .to) (s .args .workspace .now)
+row-small : (s : tie.Start Inv-loop μ-loop) (j : ℕ) → j ≤ s .args .last
+    → SmallRow (s .args .at + 5 * (j * s .args .tiles-x)) (s .args .to) (s .args .workspace .now)
 row-small s j t = record { room = within s j t; each = λ i h. s .pre .3 .each i j (omega (arith, s .pre .1)) (omega arith) }
 
-row-under : (s : tie.Start Inv-loop μ-loop) (j : ℕ) → j ≤ s .args .last → Under 4468483974758400 (row s j)
+row-under : (s : tie.Start Inv-loop μ-loop) (j : ℕ) → j ≤ s .args .last → Under rowMost (row s j)
 unfolding row
 row-under s j t =
-    under-more 1090938470400 (suc (s .args .to - s .args .from)) 4096 (omega (arith, s .pre .1, s .pre .3 .across))
-    (join-under 1090938470400 (λ a. tileEntry (s .args .at) (s .args .tiles-x) (s .args .workspace .now) a j) (s .args .from) (s .args .to) (s .pre .0) (λ i p q. small-under (row-small s j t .each i q)))
+    under-more most (suc (s .args .to - s .args .from)) sideLimit (omega (arith, s .pre .1, s .pre .3 .across))
+    (join-under most (λ a. tileEntry (s .args .at) (s .args .tiles-x) (s .args .workspace .now) a j) (s .args .from) (s .args .to) (s .pre .0)
+    (λ i p q. small-under (row-small s j t .each i q)))
 
 mul-join-row : tie.Need-mul-join-row Inv-loop μ-loop
 mul-join-row c = omega (arith, within (c .before) (c .before .args .first) (c .before .pre .2))
@@ -46,7 +52,8 @@ add-join-row : tie.Need-add-join-row Inv-loop μ-loop
 add-join-row c = omega (arith, within (c .before) (c .before .args .first) (c .before .pre .2))
 
 join-row-requires : tie.Need-join-row-requires Inv-loop μ-loop
-join-row-requires c κs = (c .before .pre .0, omega (arith, c .before .pre .1, c .before .pre .3 .across), row-small (c .before) (c .before .args .first) (c .before .pre .2))
+join-row-requires c κs =
+    (c .before .pre .0, omega (arith, c .before .pre .1, c .before .pre .3 .across), row-small (c .before) (c .before .args .first) (c .before .pre .2))
 
 add-j : tie.Need-add-j Inv-loop μ-loop
 add-j c = search needs
@@ -76,9 +83,10 @@ unfolding row
 join-requires c κs =
     let s = c .before .before .before .before .before in
     let l = c .before .before .loop in
-    let u = subst (Under (suc (l .j - 1 - s .args .first) * 4468483974758400)) (sym (l .inv .2)) (join-under 4468483974758400 (row s) (s .args .first) (l .j - 1) (omega arith) (λ j p q. row-under s j (omega arith))) in
-    let v = subst (Under 4468483974758400) (sym (c .join-row2 .ensures)) (row-under s (l .j) (c .before .loop-test .taken)) in
-    let few : l .j - s .args .first ≤ 4095 = omega (arith, s .pre .3 .down, c .before .loop-test .taken) in
+    let u = subst (Under (suc (l .j - 1 - s .args .first) * rowMost)) (sym (l .inv .2))
+    (join-under rowMost (row s) (s .args .first) (l .j - 1) (omega arith) (λ j p q. row-under s j (omega arith))) in
+    let v = subst (Under rowMost) (sym (c .join-row2 .ensures)) (row-under s (l .j) (c .before .loop-test .taken)) in
+    let few : l .j - s .args .first < sideLimit = omega (arith, s .pre .3 .down, c .before .loop-test .taken) in
     (omega (arith, u .sum, v .sum), omega (arith, u .sumSq, v .sumSq), omega (arith, u .count, v .count))
 
 add-j-2 : tie.Need-add-j-2 Inv-loop μ-loop
@@ -92,8 +100,14 @@ unfolding row
 loop-again c =
     let s = c .before .before .before .before .before .before in
     let l = c .before .before .before .loop in
-    let e : l .j + 1 - 1 ≡ l .j = omega arith in
-    (omega arith, omega arith, c .join .ensures ∙ ap₂ joined (l .inv .2) (c .before .join-row2 .ensures) ∙ join-next (row s) (s .args .first) (l .j) (l .inv .0) ∙ ap (joinOver (row s) (s .args .first)) (sym e))
+    let e : l .j + 1 - 1 ≡ l .j = omega arith in (
+      omega arith,
+      omega arith,
+      c .join .ensures
+          ∙ ap₂ joined (l .inv .2) (c .before .join-row2 .ensures)
+          ∙ join-next (row s) (s .args .first) (l .j) (l .inv .0)
+          ∙ ap (joinOver (row s) (s .args .first)) (sym e),
+    )
 
 returns : tie.Need-returns Inv-loop μ-loop
 unfolding row

@@ -1,5 +1,5 @@
 -- `row_numbers` meets its contract. The invariant: the four locals are the numbers of the samples passed. Assumes nothing.
-use Prim.Native.Nat.{ℕ, _+_, _-_, _*_, _≤_, _<_}
+use Prim.Native.Nat.{ℕ, _-_, _*_, _≤_, _<_}
 use native.Mathlib.Nat.{mul-le-mul}
 use native.Mathlib.Omega.{arith}
 use lib.ListN.{getD}
@@ -9,29 +9,29 @@ use Rattle.imgproc.proofs.tiles.row_numbers.Statement.{statement}
 use Rattle.imgproc.proofs.tiles.row_numbers.Tie as tie
 
 abbrev Inv-loop : tie.InvT-loop
-Inv-loop src at left right minimum₀ maximum₀ sum₀ sum-sq₀ x₀ minimum maximum sum sum-sq x = (left ≤ x) × (x ≤ right) × Scanned (λ k. getD src (at + k) 0) left x minimum maximum sum sum-sq
+Inv-loop row left right minimum₀ maximum₀ sum₀ sum-sq₀ x₀ minimum maximum sum sum-sq x =
+    (left ≤ x) × (x ≤ right) × Scanned (λ k. getD row k 0) left x minimum maximum sum sum-sq
 
 abbrev μ-loop : tie.MeasureT-loop
-μ-loop src at left right minimum₀ maximum₀ sum₀ sum-sq₀ x₀ minimum maximum sum sum-sq x = right - x
+μ-loop row left right minimum₀ maximum₀ sum₀ sum-sq₀ x₀ minimum maximum sum sum-sq x = right - x
 
 -- every sample is a byte
-bytes : (c : tie.After-shared-slice-known Inv-loop μ-loop) (k : ℕ) → getD (c .before .args .src .now) (c .before .args .at + k) 0 < 256
-bytes c k = omega (arith, c .shared-slice-known .given (c .before .args .at + k))
+bytes : (c : tie.After-shared-slice-known Inv-loop μ-loop) (k : ℕ) → getD (c .before .args .row .now) k 0 < 256
+bytes c k = omega (arith, c .shared-slice-known .given k)
 
 -- the sample at hand, and the sums before it
-here : (c : tie.After-greater Inv-loop μ-loop) → (c .before .before .before .before .loop .sum ≤ 1044225) × (c .before .before .before .before .loop .sum-sq ≤ 266277375)
+here : (c : tie.After-greater Inv-loop μ-loop)
+    → (c .before .before .before .before .loop .sum ≤ 1044225) × (c .before .before .before .before .loop .sum-sq ≤ 266277375)
 here c =
     let l = c .before .before .before .before .loop in
-    let s = c .before .before .before .before .before in (omega (arith, sum-small (l .inv .2) (l .inv .0) (bytes s)), omega (arith, sumSq-small (l .inv .2) (l .inv .0) (bytes s)))
+    let s = c .before .before .before .before .before in
+    (omega (arith, sum-small (l .inv .2) (l .inv .0) (bytes s)), omega (arith, sumSq-small (l .inv .2) (l .inv .0) (bytes s)))
 
 square : (v : ℕ) → v < 256 → v * v ≤ 65025
 square v t = let a : v ≤ 255 = omega arith in mul-le-mul a a
 
 loop-holds : tie.Need-loop-holds Inv-loop μ-loop
 loop-holds c = (omega arith, omega arith, scanned-none _ _)
-
-add-value : tie.Need-add-value Inv-loop μ-loop
-add-value c = search needs
 
 shared-slice-read-value : tie.Need-shared-slice-read-value Inv-loop μ-loop
 shared-slice-read-value c = search needs
@@ -46,7 +46,7 @@ cast-sum : tie.Need-cast-sum Inv-loop μ-loop
 cast-sum c = search needs
 
 add-sum : tie.Need-add-sum Inv-loop μ-loop
-add-sum c = omega (arith, here c, c .before .before .shared-slice-known2 .given (c .before .before .before .before .before .before .args .at + c .before .before .before .before .loop .x))
+add-sum c = omega (arith, here c, c .before .before .shared-slice-known2 .given (c .before .before .before .before .loop .x))
 
 cast-sum-sq : tie.Need-cast-sum-sq Inv-loop μ-loop
 cast-sum-sq c = search needs
@@ -68,20 +68,23 @@ loop-less c = search needs
 
 loop-again : tie.Need-loop-again Inv-loop μ-loop
 loop-again c =
-    let l = c .before .before .before .before .loop in (omega arith, omega arith, scanned-more (l .inv .2) (l .inv .0) (c .before .lesser .ensures) (c .greater .ensures))
+    let l = c .before .before .before .before .loop in
+    (omega arith, omega arith, scanned-more (l .inv .2) (l .inv .0) (c .before .lesser .ensures) (c .greater .ensures))
 
-cast-t18 : tie.Need-cast-t18 Inv-loop μ-loop
-cast-t18 c = let l = c .before .loop in omega (arith, sum-small (l .inv .2) (l .inv .0) (bytes (c .before .before)))
+cast-t16 : tie.Need-cast-t16 Inv-loop μ-loop
+cast-t16 c = let l = c .before .loop in omega (arith, sum-small (l .inv .2) (l .inv .0) (bytes (c .before .before)))
 
-cast-t19 : tie.Need-cast-t19 Inv-loop μ-loop
-cast-t19 c = let l = c .before .loop in omega (arith, sumSq-small (l .inv .2) (l .inv .0) (bytes (c .before .before)))
+cast-t17 : tie.Need-cast-t17 Inv-loop μ-loop
+cast-t17 c = let l = c .before .loop in omega (arith, sumSq-small (l .inv .2) (l .inv .0) (bytes (c .before .before)))
 
-sub-t20 : tie.Need-sub-t20 Inv-loop μ-loop
-sub-t20 c = search needs
+sub-t18 : tie.Need-sub-t18 Inv-loop μ-loop
+sub-t18 c = search needs
 
 returns : tie.Need-returns Inv-loop μ-loop
 returns c =
-    let l = c .before .loop in scanned-all (l .inv .2) (l .inv .0) (bytes (c .before .before)) (c .before .before .before .args .right) (c .loop-test .left) (l .inv .1) (omega (arith, c .before .before .before .pre))
+    let l = c .before .loop in
+    scanned-all (l .inv .2) (l .inv .0) (bytes (c .before .before))
+    (c .before .before .before .args .right) (c .loop-test .left) (l .inv .1) (omega (arith, c .before .before .before .pre))
 
 pub row-numbers-spec : {M : Type 1} → statement M
 row-numbers-spec =
@@ -90,7 +93,6 @@ row-numbers-spec =
     Inv-loop
     μ-loop
     loop-holds
-    add-value
     shared-slice-read-value
     lesser-requires
     greater-requires
@@ -103,7 +105,7 @@ row-numbers-spec =
     add-x
     loop-less
     loop-again
-    cast-t18
-    cast-t19
-    sub-t20
+    cast-t16
+    cast-t17
+    sub-t18
     returns)

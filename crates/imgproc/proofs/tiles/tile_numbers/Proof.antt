@@ -3,7 +3,6 @@ use Prim.Native.Nat.{ℕ, _+_, _-_, _*_, _<_, min}
 use mathlib.Core.Path.{_≡_, ap₂, _∙_}
 use native.Mathlib.Omega.{arith}
 use Rattle.image.specs.Plane.{pixel}
-use Rattle.image.specs.LayoutLaws.{row-within}
 use Rattle.imgproc.specs.GridLaws.{tile-starts}
 use Rattle.imgproc.specs.Tiles.{numbersIn}
 use Rattle.imgproc.proofs.tiles.tile_numbers.Statement.{statement}
@@ -34,16 +33,17 @@ box-numbers-requires c κs =
     let k = s .pre .0 in
     let x = column s in
     let y = row s in
-    let r : c .before .tile-end .result ≡ min (s .args .i * s .args .config .«tile_width» + s .args .config .«tile_width») (s .args .geometry .width) = c .before .tile-end .ensures in
-    let b : c .tile-end2 .result ≡ min (s .args .j * s .args .config .«tile_height» + s .args .config .«tile_height») (s .args .geometry .height) = c .tile-end2 .ensures in
-    let tw = s .pre .1 .tile-width in
-    let th = s .pre .1 .tile-height in (
+    let tw = s .args .config .«tile_width» in
+    let th = s .args .config .«tile_height» in
+    let r : c .before .tile-end .result ≡ min (s .args .i * tw + tw) (s .args .geometry .width) = c .before .tile-end .ensures in
+    let b : c .tile-end2 .result ≡ min (s .args .j * th + th) (s .args .geometry .height) = c .tile-end2 .ensures in
+    let some-wide = s .pre .1 .tile-width in
+    let some-high = s .pre .1 .tile-height in (
+      k,
       omega arith,
-      omega (arith, k .small-width),
       omega arith,
-      omega (arith, k .small-height),
-      omega (arith, k .stride),
-      omega (arith, row-within k (c .tile-end2 .result - 1) (omega arith)),
+      omega arith,
+      omega arith,
     )
 
 returns : tie.Need-returns

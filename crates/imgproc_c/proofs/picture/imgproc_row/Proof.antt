@@ -43,7 +43,7 @@ returns-2 c =
     let t = r .before in
     let l = t .before .before in
     let a = l .before .before .before .args in
-    row-copied (now (a .«data»)) (geometry (a .width) (a .height) (a .stride)) (a .y) (now (a .out)) (l .check-row .ensures) (t .enum-told .given .1) (r .row .ensures) (p .pack .ensures) (c .copied-number .ensures)
+    row-copied (now (a .«data»)) (geometry (a .width) (a .height) (a .stride)) (a .y) (now (a .out)) (l .check-row .ensures) (t .enum-told .given .1) (r .row .ensures .bytes) (p .pack .ensures) (c .copied-number .ensures)
 
 pub imgproc-row-spec : {M : Type 1} → statement M
 imgproc-row-spec =
