@@ -8,5 +8,6 @@ pub mod Layouts
 pub mod LayoutLaws
 pub mod PlaneLaws
 pub mod PaintLaws
+pub mod WriteLaws
 pub mod PaintRows
 pub mod FillLaws

@@ -6,7 +6,7 @@ use mathlib.Core.List.{List}
 use lib.ListN.{length}
 use denote.Ref.{now}
 use Rattle.image.specs.Plane.{tabulate, plane, overwritten}
-use Rattle.column.proofs.Writes.{written-none, written-more, length-written}
+use Rattle.image.specs.WriteLaws.{written-none, written-more, length-written}
 use Rattle.column.proofs.Rows.{laid, inside}
 use Rattle.column.proofs.draw_rows.Statement.{statement}
 use Rattle.column.proofs.draw_rows.Tie as tie
