@@ -8,11 +8,13 @@ use Rattle.image.specs.declared.Geometry.{Geometry}
 use Rattle.image.specs.Plane.{packed}
 use Rattle.imgproc.specs.declared.grid.TileThresholdMethod.the-variants.{Midrange}
 use Rattle.imgproc.specs.declared.reading.ReadingConfig.{ReadingConfig}
+use Rattle.imgproc.specs.declared.reading.ReadingCounts.{ReadingCounts}
 use Rattle.imgproc.specs.declared.reading.Read.{Read}
 use Rattle.imgproc.specs.declared.reading.Read.the-variants.{Counts, Refused}
 use Rattle.imgproc.specs.Refusals.{errorNumber}
 use Rattle.imgproc.specs.Reading.{readingOf, readingCheck, readBy, ReadingLent, Reads}
-use Rattle.pgm.specs.Form.{Form}
+use Rattle.pgm.specs.declared.Parsed.the-variants.{Malformed}
+use Rattle.pgm.specs.Form.{Form, parsedNumber}
 use Rattle.pgm.specs.Line.{line, refusedLine, Writes}
 
 -- document 01: element 31, target 200, floor 8; m = 3; Midrange tiles 16 by 16, radius 1, offset 0, contrast floor 12; radius 8,
@@ -24,10 +26,6 @@ settings = record {
   grid = record { «tile_width» = 16; «tile_height» = 16; «neighborhood_radius» = 1; «threshold_offset» = pos 0; «contrast_floor» = 12; method = Midrange };
   sauvola = record { radius = 8; «k_milli» = 200; «dynamic_range» = 128; «dark_value» = 0; «light_value» = 255 };
 }
-
--- the number of an input that is no picture
-abbrev pub malformed : ℕ
-malformed = 11
 
 -- a picture of w by h without padding
 abbrev pub tight : ℕ → ℕ → Geometry
@@ -41,9 +39,13 @@ readOf w h pixels dst bytes words = readBy (readingCheck (length pixels) (tight 
 abbrev pub lentTo : ℕ → ℕ → List ℕ → List ℕ → List ℕ → List ℕ → ReadingConfig → ReadingLent
 lentTo w h pixels dst bytes words s = record { src = pixels; source = tight w h; dst = dst; target = tight w h; settings = s; bytes = bytes; words = words }
 
--- the line of a reading's answer: width, height, dark, light, skipped, comparisons; or the refusal's number
+-- the line of a reading's counts: width, height, dark, light, skipped, comparisons
+abbrev pub countsLine : ℕ → ℕ → ReadingCounts → List ℕ
+countsLine w h c = line (w ∷ h ∷ c .dark ∷ c .light ∷ c .skipped ∷ c .tally .comparisons ∷ [])
+
+-- the line of a reading's answer: its counts, or the refusal's number
 abbrev pub answerOf : ℕ → ℕ → Read → List ℕ
-answerOf w h (Counts c) = line (w ∷ h ∷ c .dark ∷ c .light ∷ c .skipped ∷ c .tally .comparisons ∷ [])
+answerOf w h (Counts c) = countsLine w h c
 answerOf w h (Refused e) = refusedLine (errorNumber e)
 
 -- the answer to a picture: its line is written, and the destination and the workspaces are as the reading leaves them
@@ -53,7 +55,7 @@ pub record AnswersPicture (w h : ℕ) (pixels dst bytes words out : List ℕ) (a
 
 -- the answer to an input that is no picture: refusal 11 is written, and every other buffer is as it was
 pub record AnswersMalformed (dst bytes words out : List ℕ) (answer : ℕ) (dst′ bytes′ words′ out′ : List ℕ) : Type 0 where
-  pub writes : Writes (refusedLine malformed) out answer out′
+  pub writes : Writes (refusedLine (parsedNumber Malformed)) out answer out′
   pub dst-left : dst′ ≡ dst
   pub bytes-left : bytes′ ≡ bytes
   pub words-left : words′ ≡ words
