@@ -2,7 +2,7 @@
 use Prim.Native.Nat.{ℕ, _-_, _≤_}
 use native.Mathlib.Omega.{arith}
 use mathlib.Core.Path.{_≡_, refl, sym, ap, subst, _∙_}
-use mathlib.Core.List.{List, [], _∷_, _++_}
+use mathlib.Core.List.{List}
 use lib.ListN.{length, drop, take, length-append, length-drop}
 use lib.Seq.{take-length}
 use Rattle.imgproc.specs.declared.illumination.BackgroundDivideConfig.{BackgroundDivideConfig}
@@ -14,10 +14,9 @@ use Rattle.imgproc.specs.Division.{divisionDefaults}
 use Rattle.imgproc.specs.Grid.{gridDefaults}
 use Rattle.imgproc.specs.Sauvola.{sauvolaDefaults}
 use Rattle.imgproc.specs.Reading.{Reads}
-use Rattle.pgm.specs.declared.Parsed.{Parsed}
 use Rattle.pgm.specs.declared.Parsed.the-variants.{Picture, Malformed}
 use Rattle.pgm.specs.Form.{header, Form, Answers}
-use Rattle.pgm.specs.FormLaws.{same-header}
+use Rattle.pgm.specs.FormLaws.{same-header, after-header}
 use Rattle.pgm.specs.Line.{refusedLine, Writes}
 use Rattle.answer.specs.Answer.{settings, lentTo, answerOf, AnswersPicture, AnswersMalformed, AnswersInput}
 
@@ -48,14 +47,6 @@ module _ (w h : ℕ) (pixels dst bytes words out : List ℕ) {n : ℕ} (dst′ b
         reads = record { answers = refl; leaves = q .leaves; bytes-left = q .bytes-left; words-left = q .words-left };
       }
 
--- what stands after a header
-drop-header : (l m : List ℕ) → drop (length l) (l ++ m) ≡ m
-drop-header [] m = refl
-drop-header (x ∷ l) m = drop-header l m
-
-pub parsed-as : (l : List ℕ) {r s : Parsed} → r ≡ s → Answers l r → Answers l s
-parsed-as l e a = subst (λ (s : Parsed). Answers l s) e a
-
 module _ (l : List ℕ) (w h at : ℕ) (p : Answers l (Picture w h at)) where
   pub pixels-start : at ≤ length l
   pixels-start = omega (arith, p .1, ap length (p .0 .whole) ∙ length-append (header w h) (p .0 .pixels))
@@ -65,7 +56,7 @@ module _ (l : List ℕ) (w h at : ℕ) (p : Answers l (Picture w h at)) where
   pixels-are v g f =
       let k = p .0 in
       let s = same-header w h v g (k .pixels) (f .pixels) (k .wide) (k .high) (f .wide) (f .high) (sym (k .whole) ∙ f .whole) in
-      let d : drop at l ≡ k .pixels = ap (λ (i : ℕ). drop i l) (p .1) ∙ ap (drop (length (header w h))) (k .whole) ∙ drop-header (header w h) (k .pixels) in
+      let d : drop at l ≡ k .pixels = ap (λ (i : ℕ). drop i l) (p .1) ∙ after-header l w h k in
       let rest = ap (λ (i : ℕ). take i (drop at l)) (sym (length-drop at l)) ∙ take-length (drop at l) in
       (s .0, (s .1 .0, rest ∙ d ∙ s .1 .1))
 

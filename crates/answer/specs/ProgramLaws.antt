@@ -6,11 +6,12 @@ use mathlib.Core.Path.{_≡_, refl, sym, ap, subst, _∙_}
 use mathlib.Core.Bool.{Bool, cond}
 use mathlib.Core.List.{List, _++_}
 use lib.ListN.{length, take, drop, length-append}
-use lib.Seq.{drop-append-seam, length-take-le}
+use lib.Seq.{length-take-le}
 use borrow.Author.Tests.{le-ltb}
 use Rattle.pgm.specs.declared.Parsed.{Parsed}
 use Rattle.pgm.specs.declared.Parsed.the-variants.{Picture, Malformed}
 use Rattle.pgm.specs.Form.{header, Form, inputLimit, parsedNumber, Answers}
+use Rattle.pgm.specs.FormLaws.{after-header}
 use Rattle.pgm.specs.Line.{lineRoom, refusedLine, Writes}
 use Rattle.pgm.specs.ParseLaws.{parsed-by, start-parsed}
 use Rattle.answer.specs.Program.{pictureLine, pictureMarks, lineBy, marksBy, programLine, programMarks, Prints, ReadPart, PrintsStart}
@@ -18,12 +19,9 @@ use Rattle.answer.specs.Program.{pictureLine, pictureMarks, lineBy, mark
 -- ---- the line and the marks by the form
 
 module _ (input : List ℕ) where
-  after-header : (w h : ℕ) (f : Form input w h) → drop (length (header w h)) input ≡ f .pixels
-  after-header w h f = ap (drop (length (header w h))) (f .whole) ∙ drop-append-seam (header w h) (f .pixels)
-
   pub line-picture : (w h : ℕ) (f : Form input w h) → programLine input ≡ pictureLine w h (f .pixels)
   unfolding programLine
-  line-picture w h f = parsed-by lineBy input (Picture w h (length (header w h))) (f, refl) ∙ ap (pictureLine w h) (after-header w h f)
+  line-picture w h f = parsed-by lineBy input (Picture w h (length (header w h))) (f, refl) ∙ ap (pictureLine w h) (after-header input w h f)
 
   pub line-other : Answers input Malformed → programLine input ≡ refusedLine (parsedNumber Malformed)
   unfolding programLine
@@ -34,7 +32,7 @@ module _ (input : List ℕ) where
   marks-by r a dst = ap (λ (f : List ℕ → List ℕ). f dst) (parsed-by marksBy input r a)
 
   pub marks-picture : (w h : ℕ) (f : Form input w h) (dst : List ℕ) → programMarks input dst ≡ pictureMarks w h (f .pixels) dst
-  marks-picture w h f dst = marks-by (Picture w h (length (header w h))) (f, refl) dst ∙ ap (λ (p : List ℕ). pictureMarks w h p dst) (after-header w h f)
+  marks-picture w h f dst = marks-by (Picture w h (length (header w h))) (f, refl) dst ∙ ap (λ (p : List ℕ). pictureMarks w h p dst) (after-header input w h f)
 
 -- ---- the first bytes are enough
 

@@ -7,6 +7,7 @@ use mathlib.Core.Path.{_≡_, refl, sym, ap, _∙_}
 use mathlib.Core.List.{List, _∷_, _++_, append-assoc}
 use mathlib.Core.Logic.{⊎-elim}
 use lib.ListN.{length, drop, length-append}
+use lib.Seq.{drop-append-seam}
 use Rattle.pgm.specs.Decimal.{digit, digitsOf, decimal}
 use Rattle.pgm.specs.DecimalLaws.{small-or, decimal-one, decimal-two, decimal-short}
 use Rattle.pgm.specs.Form.{sideLimit, magic, ending, header, Form, headerLimit, longest}
@@ -63,6 +64,10 @@ pub form-once : (input : List ℕ) (w h v g : ℕ) → Form input w h → Form i
 form-once input w h v g f k =
     let s = same-header w h v g (f .pixels) (k .pixels) (f .wide) (f .high) (k .wide) (k .high) (sym (f .whole) ∙ k .whole) in
     (s .0, s .1 .0)
+
+-- what follows the header is the pixels
+pub after-header : (input : List ℕ) (w h : ℕ) (f : Form input w h) → drop (length (header w h)) input ≡ f .pixels
+after-header input w h f = ap (drop (length (header w h))) (f .whole) ∙ drop-append-seam (header w h) (f .pixels)
 
 -- ---- how long a picture is
 

@@ -2,7 +2,7 @@
 -- longest picture has, tell what is parsed of the whole. Assumes nothing.
 use Prim.Native.Nat.{ℕ, zero, suc, _+_, _*_, _/_, _%_, _≤_, _<_}
 use native.Mathlib.Omega.{arith}
-use mathlib.Core.Path.{_≡_, refl, sym, ap, _∙_}
+use mathlib.Core.Path.{_≡_, refl, sym, ap, subst, _∙_}
 use mathlib.Core.Bool.{Bool, true, false, cond, _&&_}
 use mathlib.Core.Logic.{_⊎_, inl, inr, ⊎-elim}
 use mathlib.Core.List.{List, [], _∷_, _++_}
@@ -85,6 +85,10 @@ answers-found input Malformed k = λ w h f.
     let yes : formed input ((w * sides + h) / sides) ((w * sides + h) % sides) ≡ true = ap (λ (n : ℕ). formed input n ((w * sides + h) % sides)) i ∙ ap (λ (n : ℕ). formed input w n) j ∙ form-formed input w h f in
     let z : _≡_ {A = ℕ} 0 1 = cc (yes, no) in
     omega arith
+
+-- what is known of an answer, once it is known which it is
+pub parsed-as : (input : List ℕ) {r s : Parsed} → r ≡ s → Answers input r → Answers input s
+parsed-as input e a = subst (λ (p : Parsed). Answers input p) e a
 
 -- the parse of any input meets what pgm's `parse` promises, and nothing else does
 pub parsed-answers : (input : List ℕ) → Answers input (parsedOf input)

@@ -7,6 +7,6 @@ fn main() {
     let mut input = [0u8; answer::INPUT];
     let mut line = [0u8; answer::LINE];
     let n = io::read_full(STDIN_FILENO, &mut input);
-    let length = answer::answer_read(&input, n, &mut line);
+    let length = answer::answer_start(&input, n, &mut line);
     io::write_all(STDOUT_FILENO, &line[..length]);
 }

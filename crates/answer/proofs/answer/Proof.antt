@@ -2,7 +2,8 @@
 use borrow.Author.Needs.{needs}
 use denote.Ref.{now}
 use mathlib.Core.Path.{refl}
-use Rattle.answer.proofs.Ways.{parsed-as, pixels-start, answers-picture, answers-other}
+use Rattle.pgm.specs.ParseLaws.{parsed-as}
+use Rattle.answer.proofs.Ways.{pixels-start, answers-picture, answers-other}
 use Rattle.answer.proofs.answer.Statement.{statement}
 use Rattle.answer.proofs.answer.Tie as tie
 
