@@ -1,42 +1,23 @@
 -- The bytes that were read are enough. Assumes nothing.
-use native.Mathlib.Omega.{arith}
-use mathlib.Core.Path.{refl, sym}
-use lib.Seq.{take-all, length-take-le}
-use denote.Ref.{now}
-use Rattle.answer.specs.ProgramLaws.{prints-read}
-use Rattle.column.specs.Drawing.{programDrawing}
-use Rattle.column.proofs.Drawn.{drawing-cut}
 use borrow.Author.Needs.{needs}
-use Rattle.column.proofs.draw_read.Statement.{statement}
-use Rattle.column.proofs.draw_read.Tie as tie
+use denote.Ref.{now}
+use Rattle.answer.specs.ProgramLaws.{prints-start}
+use Rattle.column.specs.Drawing.{programDrawing}
+use Rattle.column.specs.DrawingLaws.{drawing-start}
+use Rattle.column.proofs.draw_start.Statement.{statement}
+use Rattle.column.proofs.draw_start.Tie as tie
 
-draw-whole-requires : tie.Need-draw-whole-requires
-draw-whole-requires c κs = search needs
+read-part-requires : tie.Need-read-part-requires
+read-part-requires c κs = search needs
+
+draw-requires : tie.Need-draw-requires
+draw-requires c κs = search needs
 
 returns : tie.Need-returns
 returns c =
-    let a = c .before .before .before .before .args in
-    prints-read programDrawing drawing-cut (now (a .buffer)) (a .n) (now (a .buffer)) (now (a .out)) _ (sym (take-all (a .n) (now (a .buffer)) (omega arith))) (omega arith) (c .draw-whole .ensures)
+    let read = c .before .before in
+    let a = read .before .args in
+    prints-start programDrawing drawing-start (now (a .buffer)) (a .n) _ (now (a .out)) _ (read .read-part .ensures) (c .draw .ensures)
 
-slice-aggregate-draw-whole : tie.Need-slice-aggregate-draw-whole
-slice-aggregate-draw-whole c =
-    let a = c .before .before .before .args in
-    sym (length-take-le (a .n) (now (a .buffer)) (omega arith))
-
-draw-whole-requires-2 : tie.Need-draw-whole-requires-2
-draw-whole-requires-2 c κs = search needs
-
-returns-2 : tie.Need-returns-2
-returns-2 c =
-    let a = c .before .before .before .before .before .args in
-    prints-read programDrawing drawing-cut (now (a .buffer)) (a .n) _ (now (a .out)) _ refl (omega arith) (c .draw-whole2 .ensures)
-
-pub draw-read-spec : {M : Type 1} → statement M
-draw-read-spec =
-    tie.close
-    (tie.spec
-    draw-whole-requires
-    returns
-    slice-aggregate-draw-whole
-    draw-whole-requires-2
-    returns-2)
+pub draw-start-spec : {M : Type 1} → statement M
+draw-start-spec = tie.close (tie.spec read-part-requires draw-requires returns)
