@@ -15,37 +15,43 @@ use Rattle.image.specs.PlaneLaws.{packed-again}
 use Rattle.imgproc.specs.declared.Check.{Check}
 use Rattle.imgproc.specs.declared.Check.the-variants.{Accepted, Refused}
 use Rattle.imgproc.specs.declared.ImgProcError.the-variants.{Image}
-use Rattle.imgproc.specs.Refusals.{leftBy}
-use Rattle.imgproc.specs.Reading.{readingCheck, readingOf, readBy, marked}
+use Rattle.imgproc.specs.Refusals as Refusals
+use Rattle.imgproc.specs.Reading.{readingCheckOf, readingOf, readBy, marked}
 use Rattle.pgm.specs.declared.Parsed.{Parsed}
 use Rattle.pgm.specs.declared.Parsed.the-variants.{Picture, Malformed}
 use Rattle.pgm.specs.Form.{Form, Answers}
 use Rattle.pgm.specs.Line.{Writes}
 use Rattle.pgm.specs.Parse.{parsedOf}
 use Rattle.pgm.specs.ParseLaws.{parsed-answers}
-use Rattle.answer.specs.Answer.{settings, tight, answerOf, AnswersInput}
+use Rattle.answer.specs.Answer.{settings, Buffers, lentTo, answerOf, AnswersInput}
 use Rattle.answer.specs.Program.{empty, pictureLine, pictureMarks, programLine, programMarks, mostPixels, mostBytes, mostWords, AnswersAndMarks}
 use Rattle.answer.specs.ProgramLaws.{line-picture, line-other, marks-picture, marks-by}
 use Rattle.answer.specs.RoomLaws.{room-enough, empty-refused}
 
-module _ (input dst bytes words line : List ℕ) {n : ℕ} (dst′ bytes′ words′ line′ : List ℕ)
-    (d : mostPixels ≤ length dst) (b : mostBytes ≤ length bytes) (q : mostWords ≤ length words)
-    (a : AnswersInput input dst bytes words line n dst′ bytes′ words′ line′)
+module _ (input : List ℕ) (lent : Buffers) {n : ℕ} (left : Buffers)
+    (d : mostPixels ≤ length (lent .dst)) (b : mostBytes ≤ length (lent .bytes)) (q : mostWords ≤ length (lent .words))
+    (a : AnswersInput input lent n left)
   where
+    Answer : Type 0
+    Answer = AnswersAndMarks input (lent .dst) (lent .out) n (left .dst) (left .out)
+
     -- of a picture, once the check and the pixels are known
-    picture : (w h : ℕ) (f : Form input w h) (check : Check) → readingCheck (length (f .pixels)) (tight w h) (length dst) (tight w h) settings (length bytes) (length words) ≡ check →
+    picture : (w h : ℕ) (f : Form input w h) (check : Check) → readingCheckOf (lentTo w h (f .pixels) lent settings) ≡ check →
         answerOf w h (readBy check (readingOf settings w h (packed (f .pixels) w h w))) ≡ pictureLine w h (f .pixels) →
-        leftBy check (painted (marked settings w h (packed (f .pixels) w h w)) w h w dst) dst ≡ pictureMarks w h (f .pixels) dst →
-        AnswersAndMarks input dst line n dst′ line′
+        Refusals.leftBy check (painted (marked settings w h (packed (f .pixels) w h w)) w h w (lent .dst)) (lent .dst) ≡ pictureMarks w h (f .pixels) (lent .dst) →
+        Answer
+    unfolding Answer
     picture w h f check c p m =
         let x = a .picture w h f in
-        let text = ap (λ (k : Check). answerOf w h (readBy k (readingOf settings w h (packed (f .pixels) w h w)))) c ∙ p ∙ sym (line-picture input w h f) in
+        let counts = readingOf settings w h (packed (f .pixels) w h w) in
+        let marks = painted (marked settings w h (packed (f .pixels) w h w)) w h w (lent .dst) in
+        let text = ap (λ (k : Check). answerOf w h (readBy k counts)) c ∙ p ∙ sym (line-picture input w h f) in
         record {
-          writes = subst (λ (t : List ℕ). Writes t line n line′) text (x .writes);
-          marks = x .reads .leaves ∙ ap (λ (k : Check). leftBy k (painted (marked settings w h (packed (f .pixels) w h w)) w h w dst) dst) c ∙ m ∙ sym (marks-picture input w h f dst);
+          writes = subst (λ (t : List ℕ). Writes t (lent .out) n (left .out)) text (x .writes);
+          marks = x .reads .leaves ∙ ap (λ (k : Check). Refusals.leftBy k marks (lent .dst)) c ∙ m ∙ sym (marks-picture input w h f (lent .dst));
         }
 
-    either : (w h : ℕ) (f : Form input w h) (e : Bool) → empty w h ≡ e → AnswersAndMarks input dst line n dst′ line′
+    either : (w h : ℕ) (f : Form input w h) (e : Bool) → empty w h ≡ e → Answer
     either w h f true x = picture w h f (Refused (Image EmptyDimensions)) (empty-refused w h _ _ _ _ x) (rw x) (rw x)
     either w h f false x =
         let s = neither (eqb w 0) (eqb h 0) x in
@@ -54,14 +60,15 @@ module _ (input dst bytes words line : List ℕ) {n : ℕ} (dst′ bytes′ word
         let k : packed (f .pixels) w h w ≡ f .pixels = packed-again (f .pixels) w h W (f .counted) in
         picture w h f Accepted (room-enough w h W H (f .wide) (f .high) _ _ _ _ (omega (arith, f .counted)) d b q) (rw (k, x)) (rw (k, x))
 
-    pub whole : AnswersAndMarks input dst line n dst′ line′
+    pub whole : AnswersAndMarks input (lent .dst) (lent .out) n (left .dst) (left .out)
+    unfolding Answer
     whole = go (parsedOf input) (parsed-answers input)
       where
-        go : (r : Parsed) → Answers input r → AnswersAndMarks input dst line n dst′ line′
+        go : (r : Parsed) → Answers input r → Answer
         go (Picture w h at) p = either w h (p .0) (empty w h) refl
         go Malformed other =
             let x = a .other other in
             record {
               writes = rw (line-other input other) (x .writes);
-              marks = x .dst-left ∙ sym (marks-by input Malformed other dst);
+              marks = x .dst-left ∙ sym (marks-by input Malformed other (lent .dst));
             }

@@ -77,7 +77,10 @@ fn answer_picture(
     words: &mut [u64],
     out: &mut [u8],
 ) -> usize
-    ensures { λ r. ⌜ AnswersPicture width height (now (pixels .entry)) (now (dst .entry)) (now (bytes .entry)) (now (words .entry)) (now (out .entry)) r (now (dst .exit)) (now (bytes .exit)) (now (words .exit)) (now (out .exit)) ⌝ }
+    ensures { λ r. ⌜ AnswersPicture width height (now (pixels .entry))
+        (record { dst = now (dst .entry); bytes = now (bytes .entry); words = now (words .entry); out = now (out .entry) })
+        r
+        (record { dst = now (dst .exit); bytes = now (bytes .exit); words = now (words .exit); out = now (out .exit) }) ⌝ }
 {
     let geometry = Geometry {
         width: width,
@@ -98,7 +101,10 @@ pub fn answer(
     words: &mut [u64],
     out: &mut [u8],
 ) -> usize
-    ensures { λ r. ⌜ AnswersInput (now (input .entry)) (now (dst .entry)) (now (bytes .entry)) (now (words .entry)) (now (out .entry)) r (now (dst .exit)) (now (bytes .exit)) (now (words .exit)) (now (out .exit)) ⌝ }
+    ensures { λ r. ⌜ AnswersInput (now (input .entry))
+        (record { dst = now (dst .entry); bytes = now (bytes .entry); words = now (words .entry); out = now (out .entry) })
+        r
+        (record { dst = now (dst .exit); bytes = now (bytes .exit); words = now (words .exit); out = now (out .exit) }) ⌝ }
 {
     let Parsed::Picture(width, height, at) = pgm::parse(input) else {
         return pgm::refused_line(MALFORMED, out);
