@@ -37,10 +37,10 @@ pub refused-of : {n m : ℕ} (out : List ℕ) {k : ℕ} (out′ : List ℕ) → 
 refused-of out {k = k} out′ e x = subst (λ (n : ℕ). Writes (refusedLine n) out k out′) e x
 
 -- a picture that was read with the settings, and the line of what was read
-pub answered : (w h : ℕ) (pixels : List ℕ) (lent : Buffers) {n : ℕ} (left : Buffers) {s : ReadingConfig} {read : Read} →
+pub answered : (w h : ℕ) (pixels : List ℕ) {lent left : Buffers} {n : ℕ} {s : ReadingConfig} {read : Read} →
     s ≡ settings → Reads (lentTo w h pixels lent s) read (leftBy left) → Writes (answerOf w h read) (lent .out) n (left .out) →
     AnswersPicture w h pixels lent n left
-answered w h pixels lent {n} left {read = read} e r x =
+answered w h pixels {lent} {left} {n} {read = read} e r x =
     let q = subst (λ (s : ReadingConfig). Reads (lentTo w h pixels lent s) read (leftBy left)) e r in
     record {
       writes = subst (λ (a : Read). Writes (answerOf w h a) (lent .out) n (left .out)) (q .answers) x;
@@ -60,7 +60,7 @@ module _ (l : List ℕ) (w h at : ℕ) (p : Answers l (Picture w h at)) where
       let rest = ap (λ (i : ℕ). take i (drop at l)) (sym (length-drop at l)) ∙ take-length (drop at l) in
       (s .0, (s .1 .0, rest ∙ d ∙ s .1 .1))
 
-module _ (l : List ℕ) (lent : Buffers) {n : ℕ} (left : Buffers) where
+module _ (l : List ℕ) {lent left : Buffers} {n : ℕ} where
   -- a picture
   pub answers-picture : (w h at : ℕ) → Answers l (Picture w h at) → AnswersPicture w h (take (length l - at) (drop at l)) lent n left → AnswersInput l lent n left
   answers-picture w h at p a = record {

@@ -28,7 +28,7 @@ use Rattle.answer.specs.Program.{empty, pictureLine, pictureMarks, progr
 use Rattle.answer.specs.ProgramLaws.{line-picture, line-other, marks-picture, marks-by}
 use Rattle.answer.specs.RoomLaws.{room-enough, empty-refused}
 
-module _ (input : List ℕ) (lent : Buffers) {n : ℕ} (left : Buffers)
+module _ (input : List ℕ) {lent left : Buffers} {n : ℕ}
     (d : mostPixels ≤ length (lent .dst)) (b : mostBytes ≤ length (lent .bytes)) (q : mostWords ≤ length (lent .words))
     (a : AnswersInput input lent n left)
   where

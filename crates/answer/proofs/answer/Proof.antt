@@ -28,7 +28,7 @@ returns c =
     let told = call .before .before in
     let parsed = told .before .before in
     let a = parsed .before .before .before .before .before .before .args in
-    answers-other (now (a .input)) _ _ (parsed-as (now (a .input)) (told .enum-told .given .1) (parsed .parse .ensures))
+    answers-other (now (a .input)) (parsed-as (now (a .input)) (told .enum-told .given .1) (parsed .parse .ensures))
     (record { writes = call .refused-line .ensures; dst-left = refl; bytes-left = refl; words-left = refl })
 
 sub-answer-picture : tie.Need-sub-answer-picture
@@ -70,7 +70,7 @@ returns-2 c =
     let parsed = told .before .before in
     let a = parsed .before .before .before .before .before .before .args in
     let l = now (a .input) in
-    answers-picture l _ _ _ _ _ (parsed-as l (told .width .given .1) (parsed .parse .ensures)) (call .answer-picture .ensures)
+    answers-picture l _ _ _ (parsed-as l (told .width .given .1) (parsed .parse .ensures)) (call .answer-picture .ensures)
 
 pub answer-spec : {M : Type 1} → statement M
 answer-spec =

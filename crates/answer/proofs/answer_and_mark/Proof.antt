@@ -21,7 +21,7 @@ same-length c = search needs
 returns : tie.Need-returns
 returns c =
     let call = c .before .before .before .before in
-    whole _ _ _ (omega arith) (omega arith) (omega arith) (call .answer .ensures)
+    whole _ (omega arith) (omega arith) (omega arith) (call .answer .ensures)
 
 pub answer-and-mark-spec : {M : Type 1} → statement M
 answer-and-mark-spec =
