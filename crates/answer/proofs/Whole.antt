@@ -3,7 +3,7 @@ use Prim.Native.Nat.{ℕ, _≤_}
 use native.Mathlib.Nat.{pos-of-ne-zero}
 use native.Mathlib.Omega.{arith}
 use mathlib.Core.Path.{_≡_, refl, sym, ap, subst, _∙_}
-use mathlib.Core.Bool.{Bool, true, false, _||_}
+use mathlib.Core.Bool.{Bool, true, false}
 use mathlib.Core.List.{List}
 use lib.Dec.{eqb}
 use lib.ListN.{length}
@@ -24,7 +24,7 @@ use Rattle.pgm.specs.Line.{Writes}
 use Rattle.pgm.specs.Parse.{parsedOf}
 use Rattle.pgm.specs.ParseLaws.{parsed-answers}
 use Rattle.answer.specs.Answer.{settings, Buffers, lentTo, answerOf, AnswersInput}
-use Rattle.answer.specs.Program.{empty, pictureLine, pictureMarks, programLine, programMarks, mostPixels, mostBytes, mostWords, AnswersAndMarks}
+use Rattle.answer.specs.Program.{empty, pictureLine, pictureMarks, mostPixels, mostBytes, mostWords, AnswersAndMarks}
 use Rattle.answer.specs.ProgramLaws.{line-picture, line-other, marks-picture, marks-by}
 use Rattle.answer.specs.RoomLaws.{room-enough, empty-refused}
 
@@ -38,7 +38,8 @@ module _ (input : List ℕ) {lent left : Buffers} {n : ℕ}
     -- of a picture, once the check and the pixels are known
     picture : (w h : ℕ) (f : Form input w h) (check : Check) → readingCheckOf (lentTo w h (f .pixels) lent settings) ≡ check →
         answerOf w h (readBy check (readingOf settings w h (packed (f .pixels) w h w))) ≡ pictureLine w h (f .pixels) →
-        Refusals.leftBy check (painted (marked settings w h (packed (f .pixels) w h w)) w h w (lent .dst)) (lent .dst) ≡ pictureMarks w h (f .pixels) (lent .dst) →
+        Refusals.leftBy check (painted (marked settings w h (packed (f .pixels) w h w)) w h w (lent .dst)) (lent .dst)
+        ≡ pictureMarks w h (f .pixels) (lent .dst) →
         Answer
     unfolding Answer
     picture w h f check c p m =

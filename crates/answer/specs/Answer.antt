@@ -39,7 +39,15 @@ pub record Buffers : Type 0 where
 -- what a reading of a picture of w by h is lent, what it leaves, and what it answers
 abbrev pub lentTo : ℕ → ℕ → List ℕ → Buffers → ReadingConfig → ReadingLent
 lentTo w h pixels lent s =
-    record { src = pixels; source = tight w h; dst = lent .dst; target = tight w h; settings = s; bytes = lent .bytes; words = lent .words }
+    record {
+      src = pixels;
+      source = tight w h;
+      dst = lent .dst;
+      target = tight w h;
+      settings = s;
+      bytes = lent .bytes;
+      words = lent .words;
+    }
 
 abbrev pub leftBy : Buffers → ReadingLeft
 leftBy left = record { dst = left .dst; bytes = left .bytes; words = left .words }

@@ -1,5 +1,5 @@
--- What the program `reading` prints for each input, what stands in the destination then, and what the reading of the largest
--- picture is lent. Definitions only.
+-- What the program `reading` prints for each input, what stands in the destination then, and what the reading of the
+-- largest picture is lent. Definitions only.
 use Prim.Native.Nat.{ℕ, _+_, _*_, _≤_}
 use mathlib.Core.Path.{_≡_}
 use mathlib.Core.Bool.{Bool, cond, _||_}
@@ -72,7 +72,7 @@ pub record Prints (text before : List ℕ) (answer : ℕ) (after : List ℕ) : T
   pub answers : answer ≡ length text
   pub leaves : after ≡ text ++ drop (length text) before
 
--- the contract of `answer_and_mark`: the line is written where the buffer has room for any line, and the destination is marked
+-- the contract of `answer_and_mark`: the line is written where the buffer has room for any, and the destination is marked
 pub record AnswersAndMarks (input dst out : List ℕ) (answer : ℕ) (dst′ out′ : List ℕ) : Type 0 where
   pub writes : Writes (programLine input) out answer out′
   pub marks : dst′ ≡ programMarks input dst
@@ -82,9 +82,10 @@ pub record ReadPart (buffer : List ℕ) (n : ℕ) (got : List ℕ) : Type 0 wher
   pub first : got ≡ take n buffer
   pub enough : inputLimit ≤ length buffer
 
--- the contract of a program's answer to what it has read, the first n bytes of a buffer: whatever the input is whose first bytes
--- these are, all of them or as many as the buffer holds, the text of that whole input is written. `within` says of the answer what
--- `&out[..answer]` needs
-pub record PrintsStart (program : List ℕ → List ℕ) (buffer : List ℕ) (n : ℕ) (out : List ℕ) (answer : ℕ) (out′ : List ℕ) : Type 0 where
+-- the contract of a program's answer to what it has read, the first n bytes of a buffer: whatever the input is whose first
+-- bytes these are, all of them or as many as the buffer holds, the text of that whole input is written. `within` says of the
+-- answer what `&out[..answer]` needs
+pub record PrintsStart (program : List ℕ → List ℕ) (buffer : List ℕ) (n : ℕ) (out : List ℕ) (answer : ℕ) (out′ : List ℕ)
+    : Type 0 where
   pub within : (answer ≤ length out′) × (answer ≡ length (take answer out′))
   pub every : (input : List ℕ) → take n buffer ≡ take (length buffer) input → Prints (program input) out answer out′

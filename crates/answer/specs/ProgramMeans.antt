@@ -1,5 +1,5 @@
--- The whole program in three lines: "refused 11" exactly for an input that is no picture, "refused 1" exactly for a picture with a zero
--- side, and the six numbers of the reading for every other. Assumes nothing.
+-- The whole program in three lines: "refused 11" exactly for an input that is no picture, "refused 1" exactly for a picture
+-- with a zero side, and the six numbers of the reading for every other. Assumes nothing.
 use Prim.Native.Nat.{ℕ, _<_}
 use native.Mathlib.Omega.{arith}
 use mathlib.Core.Path.{_≡_, refl, sym, ap, _∙_}
@@ -30,8 +30,9 @@ pub record Answered (input : List ℕ) : Type 0 where
   pub other : (programLine input ≡ refusedLine 11) ↔ (IsPicture input → ⊥)
   pub none : (programLine input ≡ refusedLine 1) ↔ IsEmpty input
   pub numbers :
-    (w h : ℕ) (f : Form input w h) → 0 < w → 0 < h →
-    let c = readingOf settings w h (f .pixels) in programLine input ≡ line (w ∷ h ∷ c .dark ∷ c .light ∷ c .skipped ∷ c .tally .comparisons ∷ [])
+      (w h : ℕ) (f : Form input w h) → 0 < w → 0 < h →
+      let c = readingOf settings w h (f .pixels) in
+      programLine input ≡ line (w ∷ h ∷ c .dark ∷ c .light ∷ c .skipped ∷ c .tally .comparisons ∷ [])
 
 zero-side : (w h : ℕ) → empty w h ≡ true → (w ≡ 0) ⊎ (h ≡ 0)
 zero-side w h e = go (eqb w 0) refl
@@ -50,11 +51,15 @@ side-zero w h (inr z) = go (eqb w 0)
 
 module _ (input : List ℕ) where
   -- the line of a picture, once it is known whether a side is 0
-  by-sides : (w h : ℕ) (f : Form input w h) (b : Bool) → empty w h ≡ b → programLine input ≡ cond b (refusedLine 1) (countsLine w h (readingOf settings w h (f .pixels)))
-  by-sides w h f b e = line-picture input w h f ∙ ap (λ (c : Bool). cond c (refusedLine 1) (countsLine w h (readingOf settings w h (f .pixels)))) e
+  by-sides : (w h : ℕ) (f : Form input w h) (b : Bool) → empty w h ≡ b →
+      programLine input ≡ cond b (refusedLine 1) (countsLine w h (readingOf settings w h (f .pixels)))
+  by-sides w h f b e =
+      line-picture input w h f
+      ∙ ap (λ (c : Bool). cond c (refusedLine 1) (countsLine w h (readingOf settings w h (f .pixels)))) e
 
-  -- an input is refused with 11 or with 1, and only where that is so: no other number occurs, 3 and 8 among them
-  pub refused-only : (n : ℕ) → programLine input ≡ refusedLine n → ((n ≡ 11) × (IsPicture input → ⊥)) ⊎ ((n ≡ 1) × IsEmpty input)
+  -- no number but 11 and 1 occurs, not 3 nor 8, and each of them where it should
+  pub refused-only : (n : ℕ) → programLine input ≡ refusedLine n →
+      ((n ≡ 11) × (IsPicture input → ⊥)) ⊎ ((n ≡ 1) × IsEmpty input)
   refused-only n e = go (parsedOf input) (parsed-answers input)
     where
       go : (r : Parsed) → Answers input r → ((n ≡ 11) × (IsPicture input → ⊥)) ⊎ ((n ≡ 1) × IsEmpty input)
@@ -69,7 +74,8 @@ module _ (input : List ℕ) where
               )
           side false x =
               let c = readingOf settings w h (p .0 .pixels) in
-              absurd (not-refused w h n (c .dark ∷ c .light ∷ c .skipped ∷ c .tally .comparisons ∷ []) (sym (by-sides w h (p .0) false x) ∙ e))
+              let rest = c .dark ∷ c .light ∷ c .skipped ∷ c .tally .comparisons ∷ [] in
+              absurd (not-refused w h n rest (sym (by-sides w h (p .0) false x) ∙ e))
 
   pub answered : Answered input
   answered = record {
@@ -79,7 +85,9 @@ module _ (input : List ℕ) where
     );
     none = (
       λ e. ⊎-elim (λ p. absurd (omega (arith, p .0))) (λ p. p .1) (refused-only 1 e),
-      λ z. let p = z .picture in by-sides (p .width) (p .height) (p .form) true (side-zero (p .width) (p .height) (z .zero)),
+      λ z.
+          let p = z .picture in
+          by-sides (p .width) (p .height) (p .form) true (side-zero (p .width) (p .height) (z .zero)),
     );
     numbers = λ w h f W H.
         let a : w ≡ 0 → ⊥ = λ z. omega arith in

@@ -1,10 +1,10 @@
--- A picture of the accepted form with no zero side is read with the program's buffers, never refused; one with a zero side is refused as
--- empty whatever is lent. Assumes nothing.
+-- A picture of the accepted form with no zero side is read with the program's buffers, never refused; one with a zero side is
+-- refused as empty whatever is lent. Assumes nothing.
 use Prim.Native.Nat.{ℕ, _+_, _-_, _*_, _/_, _≤_, _<_}
 use native.Mathlib.Nat.{mul-le-mul, mul-comm}
 use native.Mathlib.Omega.{arith}
 use mathlib.Core.Path.{_≡_, refl, ap}
-use mathlib.Core.Bool.{true, _||_}
+use mathlib.Core.Bool.{true}
 use borrow.Author.Tests.{le-ltb, eq-eqb}
 use Rattle.image.specs.declared.LumaError.the-variants.{EmptyDimensions}
 use Rattle.image.specs.Layout.{Kept, layoutOf}
@@ -24,7 +24,14 @@ module _ (w h : ℕ) (W : 0 < w) (H : 0 < h) (ww : w ≤ sideLimit) (hh : h ≤ 
 
   -- the layout of w × h bytes without padding
   kept : (len : ℕ) → w * h ≤ len → Kept len (tight w h)
-  kept len l = record { wide = W; high = H; stride = omega arith; fits = omega (arith, mul-comm w h, row); small-width = omega arith; small-height = omega arith }
+  kept len l = record {
+    wide = W;
+    high = H;
+    stride = omega arith;
+    fits = omega (arith, mul-comm w h, row);
+    small-width = omega arith;
+    small-height = omega arith;
+  }
     where
       row : w * (h - 1) + w ≡ w * h
       row = let e : h - 1 + 1 ≡ h = omega arith in omega (arith, ap (λ (n : ℕ). w * n) e)
@@ -33,9 +40,12 @@ module _ (w h : ℕ) (W : 0 < w) (H : 0 < h) (ww : w ≤ sideLimit) (hh : h ≤ 
   tiles = mul-le-mul {n₁ = (w + 16 - 1) / 16} {m₁ = (h + 16 - 1) / 16} {n₂ = 4} {m₂ = 4} (omega arith) (omega arith)
 
   entries : tableEntries w h ≤ tableEntries sideLimit sideLimit
-  entries = omega (arith, mul-le-mul {n₁ = w + 1} {m₁ = h + 1} {n₂ = sideLimit + 1} {m₂ = sideLimit + 1} (omega arith) (omega arith))
+  entries =
+      let side = sideLimit + 1 in
+      omega (arith, mul-le-mul {n₁ = w + 1} {m₁ = h + 1} {n₂ = side} {m₂ = side} (omega arith) (omega arith))
 
-  pub room-enough : (pixels dst bytes words : ℕ) → w * h ≤ pixels → mostPixels ≤ dst → mostBytes ≤ bytes → mostWords ≤ words →
+  pub room-enough : (pixels dst bytes words : ℕ) →
+      w * h ≤ pixels → mostPixels ≤ dst → mostBytes ≤ bytes → mostWords ≤ words →
       readingCheck pixels (tight w h) dst (tight w h) settings bytes words ≡ Accepted
   room-enough pixels dst bytes words p d b q =
       rw (

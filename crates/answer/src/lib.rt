@@ -35,7 +35,7 @@ const BYTES: usize = 9 * PIXELS + 2 * TILES;
 
 const WORDS: usize = 2 * (pgm::SIDE_LIMIT + 1) * (pgm::SIDE_LIMIT + 1) + 5 * TILES;
 
-// The Rust's settings, and an opening with kernel 3.
+// Gives the Rust's settings, and an opening with kernel 3.
 fn settings() -> ReadingConfig
     ensures { λ r. ⌜ r ≡ settings ⌝ }
 {
@@ -112,10 +112,11 @@ pub fn answer(
     answer_picture(&input[at..], width, height, dst, bytes, words, out)
 }
 
-// Answers an input of any length with workspaces of its own, and marks its picture in a destination. A line buffer of less
-// than LINE bytes is left as it is, and the answer is 0.
+// Answers an input of any length with workspaces of its own, and marks its picture in a destination. A line buffer of
+// less than LINE bytes is left as it is, and the answer is 0.
 pub fn answer_and_mark(input: &[u8], dst: &mut [u8; PIXELS], out: &mut [u8]) -> usize
-    ensures { λ r. ⌜ AnswersAndMarks (now (input .entry)) (now (dst .entry)) (now (out .entry)) r (now (dst .exit)) (now (out .exit)) ⌝ }
+    ensures { λ r. ⌜ AnswersAndMarks (now (input .entry)) (now (dst .entry)) (now (out .entry))
+        r (now (dst .exit)) (now (out .exit)) ⌝ }
 {
     let mut bytes = [0u8; BYTES];
     let mut words = [0u64; WORDS];

@@ -3,13 +3,13 @@ use Prim.Native.Nat.{ℕ, _+_, _*_, _≤_, _<_}
 use native.Mathlib.Nat.{mul-le-mul}
 use native.Mathlib.Omega.{arith}
 use mathlib.Core.Path.{_≡_, refl, sym, ap, subst, _∙_}
-use mathlib.Core.Bool.{Bool, true, false, cond, _||_}
-use mathlib.Core.List.{List, [], _∷_, _++_, append-assoc, append-nil}
+use mathlib.Core.Bool.{Bool, true, false, cond}
+use mathlib.Core.List.{List, [], _++_, append-assoc, append-nil}
 use lib.Dec.{eqb}
 use lib.ListN.{length, take, drop, length-append, take-append-drop}
 use lib.Seq.{length-take-le, take-at, drop-append-le, drop-append-add, drop-drop}
 use borrow.Author.Tests.{eq-eqb, ne-eqb, eqb-false}
-use Rattle.image.specs.Plane.{pixel, plane, painted, overwritten}
+use Rattle.image.specs.Plane.{pixel, painted, overwritten}
 use Rattle.image.specs.PlaneLaws.{in-plane, pixel-plane, plane-same, length-plane}
 use Rattle.image.specs.PaintLaws.{length-painted, painted-pixel}
 use Rattle.imgproc.specs.declared.judging.Judgement.{Judgement}
@@ -39,7 +39,8 @@ module _ (text rows out : List ℕ) where
     leaves =
         ap (λ (l : List ℕ). overwritten n rows l) f
         ∙ ap (λ (k : ℕ). overwritten k rows (text ++ drop (length text) out)) e
-        ∙ ap (λ (l : List ℕ). l ++ (rows ++ drop (length text + length rows) (text ++ drop (length text) out))) (take-at text (drop (length text) out) (length text) refl)
+        ∙ ap (λ (l : List ℕ). l ++ (rows ++ drop (length text + length rows) (text ++ drop (length text) out)))
+        (take-at text (drop (length text) out) (length text) refl)
         ∙ ap (λ (l : List ℕ). text ++ (rows ++ l)) (drop-append-add text (drop (length text) out) (length rows) ∙ drop-drop (length rows) (length text) out)
         ∙ sym (append-assoc text rows (drop (length text + length rows) out))
         ∙ ap (λ (k : ℕ). (text ++ rows) ++ drop k out) (sym (length-append text rows));
@@ -77,7 +78,8 @@ module _ {input out dst part dst′ : List ℕ} {n : ℕ} (k : Lined input out d
       let t = programLine input in
       ap (λ (l : List ℕ). l ++ drop lineRoom out) (line .leaves)
       ∙ append-assoc t (drop (length t) (take lineRoom out)) (drop lineRoom out)
-      ∙ ap (λ (l : List ℕ). t ++ l) (sym (drop-append-le (length t) (take lineRoom out) (drop lineRoom out) (omega (arith, front, short))) ∙ ap (drop (length t)) (take-append-drop lineRoom out))
+      ∙ ap (λ (l : List ℕ). t ++ l)
+      (sym (drop-append-le (length t) (take lineRoom out) (drop lineRoom out) (omega (arith, front, short))) ∙ ap (drop (length t)) (take-append-drop lineRoom out))
 
   length-after : length (part ++ drop lineRoom out) ≡ length out
   length-after =

@@ -1,4 +1,5 @@
--- What the program `column` writes for each input: the line of the program `reading`, and the rows of its picture. Definitions only.
+-- What the program `column` writes for each input: the line of the program `reading`, and the rows of its picture.
+-- Definitions only.
 use Prim.Native.Nat.{ℕ, _+_, _*_, _≤_, _<_}
 use mathlib.Core.Path.{_≡_}
 use mathlib.Core.Bool.{cond}
@@ -63,7 +64,7 @@ pub record Room (pixels : List ℕ) (w h : ℕ) (out : List ℕ) (at : ℕ) : Ty
   pub holds : w * h ≤ length pixels
   pub fits : at + (w + 1) * h ≤ length out
 
--- the contract of `draw_rows`: the marks of the pixels' bytes are written from `at` on, and the answer is the place after them
+-- the contract of `draw_rows`: the rows of the bytes' marks are written from `at` on, and the answer is the place after them
 pub record DrawsRows (pixels : List ℕ) (w h : ℕ) (out : List ℕ) (at answer : ℕ) (out′ : List ℕ) : Type 0 where
   pub answers : answer ≡ at + (w + 1) * h
   pub leaves : out′ ≡ overwritten at (rowsOf w h (λ x y. inkOf (pixel pixels w x y))) out

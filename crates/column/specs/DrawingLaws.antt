@@ -8,7 +8,6 @@ use Rattle.pgm.specs.declared.Parsed.the-variants.{Picture, Malformed}
 use Rattle.pgm.specs.Form.{header, Form, inputLimit, Answers}
 use Rattle.pgm.specs.FormLaws.{after-header}
 use Rattle.pgm.specs.ParseLaws.{parsed-by, start-parsed}
-use Rattle.answer.specs.Program.{programLine}
 use Rattle.answer.specs.ProgramLaws.{line-start}
 use Rattle.column.specs.Drawing.{pictureRows, rowsBy, programRows, programDrawing}
 
@@ -19,7 +18,8 @@ rows-by input r a = parsed-by rowsBy input r a
 
 -- those of a picture
 pub rows-picture : (input : List ℕ) (w h : ℕ) (f : Form input w h) → programRows input ≡ pictureRows w h (f .pixels)
-rows-picture input w h f = rows-by input (Picture w h (length (header w h))) (f, refl) ∙ ap (pictureRows w h) (after-header input w h f)
+rows-picture input w h f =
+    rows-by input (Picture w h (length (header w h))) (f, refl) ∙ ap (pictureRows w h) (after-header input w h f)
 
 -- of an input that is no picture nothing is drawn
 pub rows-other : (input : List ℕ) → Answers input Malformed → programRows input ≡ []
@@ -28,4 +28,5 @@ rows-other input none = rows-by input Malformed none
 -- an input and its first 3,614 bytes, or more of them, have the same drawing
 pub drawing-start : (input : List ℕ) (m : ℕ) → inputLimit ≤ m → programDrawing (take m input) ≡ programDrawing input
 unfolding programRows
-drawing-start input m enough = ap₂ (λ (l r : List ℕ). l ++ r) (line-start input m enough) (start-parsed input m enough rowsBy (λ a b. refl))
+drawing-start input m enough =
+    ap₂ (λ (l r : List ℕ). l ++ r) (line-start input m enough) (start-parsed input m enough rowsBy (λ a b. refl))

@@ -1,5 +1,5 @@
-// Reads a picture as the program `reading` does, writes the same line, and draws under it the rows of the destination: '#'
-// for each pixel that is judged dark, '.' for every other. Of an input that is refused nothing is drawn.
+// Reads a picture as the program `reading` does, writes the same line, and draws under it the rows of the destination:
+// '#' for each pixel that is judged dark, '.' for every other. Of an input that is refused nothing is drawn.
 use libc::STDIN_FILENO;
 use libc::STDOUT_FILENO;
 use pgm::Parsed;
@@ -75,6 +75,7 @@ fn draw_start(buffer: &[u8; answer::INPUT], n: usize, out: &mut [u8; DRAWING]) -
     draw(answer::read_part(buffer, n), out)
 }
 
+// Reads the first bytes of the input, draws them and writes the drawing.
 fn main() {
     let mut input = [0u8; answer::INPUT];
     let mut out = [0u8; DRAWING];

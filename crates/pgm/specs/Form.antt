@@ -54,7 +54,8 @@ abbrev pub parsedNumber : Parsed → ℕ
 parsedNumber (Picture w h at) = 0
 parsedNumber Malformed = 11
 
--- the contract of `parse`: a picture is of the form and its pixels start after the header; what is malformed is of the form for no sides
+-- the contract of `parse`: a picture is of the form and its pixels start after the header; what is malformed is of the form
+-- for no sides
 abbrev pub Answers : List ℕ → Parsed → Type 0
 Answers input (Picture w h at) = Form input w h × (at ≡ length (header w h))
 Answers input Malformed = (w h : ℕ) → Form input w h → ⊥

@@ -1,5 +1,5 @@
--- A header can be read in one way only, so an input is of the form for at most one pair of sides; and how long a picture is.
--- Assumes nothing.
+-- A header can be read in one way only, so an input is of the form for at most one pair of sides; and how long a picture
+-- is. Assumes nothing.
 use Prim.Native.Nat.{ℕ, _*_, _/_, _%_, _≤_, _<_}
 use native.Mathlib.Nat.{mul-le-mul}
 use native.Mathlib.Omega.{arith}

@@ -1,5 +1,5 @@
--- Every line of 64-bit numbers fits the room that is asked for; and no two refusals, nor a refusal and counts, have one line.
--- Assumes nothing.
+-- Every line of 64-bit numbers fits the room that is asked for; and no two refusals, nor a refusal and counts, have one
+-- line. Assumes nothing.
 use Prim.Native.Nat.{ℕ, _^_, _≤_, _<_}
 use native.Mathlib.Omega.{arith}
 use mathlib.Core.Path.{_≡_, ap}

@@ -1,8 +1,8 @@
--- What is parsed is the form, for the one pair of sides that an input has; and the first bytes of an input, one more than the
--- longest picture has, tell what is parsed of the whole. Assumes nothing.
+-- What is parsed is the form, for the one pair of sides that an input has; and the first bytes of an input, one more than
+-- the longest picture has, tell what is parsed of the whole. Assumes nothing.
 use Prim.Native.Nat.{ℕ, zero, suc, _+_, _*_, _/_, _%_, _≤_, _<_}
 use native.Mathlib.Omega.{arith}
-use mathlib.Core.Path.{_≡_, refl, sym, ap, subst, _∙_}
+use mathlib.Core.Path.{_≡_, refl, sym, ap, ap₂, subst, _∙_}
 use mathlib.Core.Bool.{Bool, true, false, cond, _&&_}
 use mathlib.Core.Logic.{_⊎_, inl, inr, ⊎-elim}
 use mathlib.Core.List.{List, [], _∷_, _++_}
@@ -50,9 +50,10 @@ formed-form input w h ww hh e =
 
 form-formed : (input : List ℕ) (w h : ℕ) → Form input w h → formed input w h ≡ true
 form-formed input w h f =
-    let l : length input ≡ length (header w h) + w * h = ap length (f .whole) ∙ length-append (header w h) (f .pixels) ∙ ap (λ (k : ℕ). length (header w h) + k) (f .counted) in
-    let b : begins (header w h) input ≡ true = ap (begins (header w h)) (f .whole) ∙ begins-append (header w h) (f .pixels) in
-    rw (eq-eqb (length input) (length (header w h) + w * h) l, b)
+    let start = header w h in
+    let l : length input ≡ length start + w * h = ap length (f .whole) ∙ length-append start (f .pixels) ∙ omega (arith, f .counted) in
+    let b : begins start input ≡ true = ap (begins start) (f .whole) ∙ begins-append start (f .pixels) in
+    rw (eq-eqb (length input) (length start + w * h) l, b)
 
 -- ---- what is sought is found
 
@@ -61,7 +62,8 @@ abbrev Found : List ℕ → ℕ → Parsed → Type 0
 Found input n (Picture w h at) = Form input w h × (at ≡ length (header w h))
 Found input n Malformed = (k : ℕ) → k < n → formed input (k / sides) (k % sides) ≡ false
 
-found-more : (input : List ℕ) (n : ℕ) (b : Bool) (r : Parsed) → n < (sides * sides) → formed input (n / sides) (n % sides) ≡ b → Found input n r →
+found-more : (input : List ℕ) (n : ℕ) (b : Bool) (r : Parsed) → n < sides * sides →
+    formed input (n / sides) (n % sides) ≡ b → Found input n r →
     Found input (suc n) (cond b (Picture (n / sides) (n % sides) (length (header (n / sides) (n % sides)))) r)
 found-more input n true r l e k = (formed-form input (n / sides) (n % sides) (omega arith) (omega arith) e, refl)
 found-more input n false (Picture w h at) l e k = k
@@ -71,18 +73,21 @@ found-more input n false Malformed l e k = λ i p. either i p (eqb i n) refl
     either i p true q = ap (λ (j : ℕ). formed input (j / sides) (j % sides)) (eqb-true i n q) ∙ e
     either i p false q = k i (let d : i ≡ n → ⊥ = eqb-false i n q in omega arith)
 
-found : (input : List ℕ) (n : ℕ) → n ≤ (sides * sides) → Found input n (sought input n)
+found : (input : List ℕ) (n : ℕ) → n ≤ sides * sides → Found input n (sought input n)
 unfolding sought
 found input zero l = λ i p. absurd (omega arith)
-found input (suc n) l = found-more input n (formed input (n / sides) (n % sides)) (sought input n) (omega arith) refl (found input n (omega arith))
+found input (suc n) l =
+    let here = formed input (n / sides) (n % sides) in
+    found-more input n here (sought input n) (omega arith) refl (found input n (omega arith))
 
 answers-found : (input : List ℕ) (r : Parsed) → Found input (sides * sides) r → Answers input r
 answers-found input (Picture w h at) k = k
 answers-found input Malformed k = λ w h f.
-    let i : (w * sides + h) / sides ≡ w = omega (arith, f .wide, f .high) in
-    let j : (w * sides + h) % sides ≡ h = omega (arith, f .wide, f .high) in
-    let no = k (w * sides + h) (omega (arith, f .wide, f .high)) in
-    let yes : formed input ((w * sides + h) / sides) ((w * sides + h) % sides) ≡ true = ap (λ (n : ℕ). formed input n ((w * sides + h) % sides)) i ∙ ap (λ (n : ℕ). formed input w n) j ∙ form-formed input w h f in
+    let n = w * sides + h in
+    let i : n / sides ≡ w = omega (arith, f .wide, f .high) in
+    let j : n % sides ≡ h = omega (arith, f .wide, f .high) in
+    let no = k n (omega (arith, f .wide, f .high)) in
+    let yes : formed input (n / sides) (n % sides) ≡ true = ap₂ (formed input) i j ∙ form-formed input w h f in
     let z : _≡_ {A = ℕ} 0 1 = cc (yes, no) in
     omega arith
 
@@ -110,7 +115,8 @@ parsed-once input Malformed (Picture v g to) p q = absurd (p v g (q .0))
 parsed-once input Malformed Malformed p q = refl
 
 -- anything that is made of what is parsed, once an answer is known
-pub parsed-by : {A : Type 0} (by : Parsed → List ℕ → A) (input : List ℕ) (r : Parsed) → Answers input r → by (parsedOf input) input ≡ by r input
+pub parsed-by : {A : Type 0} (by : Parsed → List ℕ → A) (input : List ℕ) (r : Parsed) → Answers input r →
+    by (parsedOf input) input ≡ by r input
 parsed-by by input r a = ap (λ (p : Parsed). by p input) (parsed-once input (parsedOf input) r (parsed-answers input) a)
 
 -- ---- the first bytes are enough
@@ -120,16 +126,20 @@ module _ (input : List ℕ) (m : ℕ) (enough : inputLimit ≤ m) where
   start : (take m input ≡ input) ⊎ (Answers input Malformed × Answers (take m input) Malformed)
   start = go (ltb m (length input)) refl
     where
-      go : (b : Bool) → ltb m (length input) ≡ b → (take m input ≡ input) ⊎ (Answers input Malformed × Answers (take m input) Malformed)
+      go : (b : Bool) → ltb m (length input) ≡ b →
+          (take m input ≡ input) ⊎ (Answers input Malformed × Answers (take m input) Malformed)
       go false e = inl (take-all m input (ltb-false m (length input) e))
       go true e =
           let l = ltb-true m (length input) e in
-          inr ((λ w h f. omega (arith, form-short input w h f)), (λ w h f. omega (arith, form-short (take m input) w h f, length-take-le m input (omega arith))))
+          let t = length-take-le m input (omega arith) in
+          inr ((λ w h f. omega (arith, form-short input w h f)), (λ w h f. omega (arith, form-short (take m input) w h f, t)))
 
-  -- so anything that is made of what is parsed, and is the same for all inputs that are no picture, is that of the first bytes
+  -- so anything made of what is parsed, that is the same for all inputs that are no picture, is that of the first bytes
   pub start-parsed : {A : Type 0} (by : Parsed → List ℕ → A) → ((a b : List ℕ) → by Malformed a ≡ by Malformed b) →
       by (parsedOf (take m input)) (take m input) ≡ by (parsedOf input) input
   start-parsed by same =
       ⊎-elim (λ e. ap (λ (l : List ℕ). by (parsedOf l) l) e)
-      (λ none. parsed-by by (take m input) Malformed (none .1) ∙ same (take m input) input ∙ sym (parsed-by by input Malformed (none .0)))
+      (λ none.
+      parsed-by by (take m input) Malformed (none .1) ∙ same (take m input) input
+      ∙ sym (parsed-by by input Malformed (none .0)))
       start

@@ -1,7 +1,6 @@
 -- The lengths of the workspaces are enough. Assumes nothing.
 use borrow.Author.Needs.{needs}
 use native.Mathlib.Omega.{arith}
-use denote.Ref.{now}
 use Rattle.answer.proofs.Whole.{whole}
 use Rattle.answer.proofs.answer_and_mark.Statement.{statement}
 use Rattle.answer.proofs.answer_and_mark.Tie as tie

@@ -39,7 +39,8 @@ returns c =
     let call = parsed .before .before .before in
     let start = call .before .before .before .before .before in
     let input = now (start .args .input) in
-    let l = lined {input = input} {out = now (start .args .out)} (start .pre) (omega arith) (call .answer-and-mark .kept .1 .1 .0) (call .answer-and-mark .ensures) in
+    let made = call .answer-and-mark in
+    let l = lined {input = input} {out = now (start .args .out)} (start .pre) (omega arith) (made .kept .1 .1 .0) (made .ensures) in
     undrawn l Malformed (parsed-as input (told .enum-told .given .1) (parsed .parse .ensures)) refl
 
 same-length-2 : tie.Need-same-length-2
@@ -52,7 +53,8 @@ returns-2 c =
     let call = parsed .before .before .before in
     let start = call .before .before .before .before .before in
     let input = now (start .args .input) in
-    let l = lined {input = input} {out = now (start .args .out)} (start .pre) (omega arith) (call .answer-and-mark .kept .1 .1 .0) (call .answer-and-mark .ensures) in
+    let made = call .answer-and-mark in
+    let l = lined {input = input} {out = now (start .args .out)} (start .pre) (omega arith) (made .kept .1 .1 .0) (made .ensures) in
     undrawn-wide l _ _ _ (parsed-as input (told .width .given .1) (parsed .parse .ensures)) (c .if1 .taken)
 
 same-length-3 : tie.Need-same-length-3
@@ -65,7 +67,8 @@ returns-3 c =
     let call = parsed .before .before .before in
     let start = call .before .before .before .before .before in
     let input = now (start .args .input) in
-    let l = lined {input = input} {out = now (start .args .out)} (start .pre) (omega arith) (call .answer-and-mark .kept .1 .1 .0) (call .answer-and-mark .ensures) in
+    let made = call .answer-and-mark in
+    let l = lined {input = input} {out = now (start .args .out)} (start .pre) (omega arith) (made .kept .1 .1 .0) (made .ensures) in
     undrawn-high l _ _ _ (parsed-as input (told .width .given .1) (parsed .parse .ensures)) (c .before .if1 .left) (c .if2 .taken)
 
 slice-aggregate-draw-rows : tie.Need-slice-aggregate-draw-rows
@@ -75,7 +78,8 @@ slice-aggregate-draw-rows c =
     let call = parsed .before .before .before in
     let start = call .before .before .before .before .before in
     let input = now (start .args .input) in
-    let l = lined {input = input} {out = now (start .args .out)} (start .pre) (omega arith) (call .answer-and-mark .kept .1 .1 .0) (call .answer-and-mark .ensures) in
+    let made = call .answer-and-mark in
+    let l = lined {input = input} {out = now (start .args .out)} (start .pre) (omega arith) (made .kept .1 .1 .0) (made .ensures) in
     sym (length-marks l _ _ _ (parsed-as input (told .width .given .1) (parsed .parse .ensures)) (c .before .before .if1 .left) (c .before .if2 .left))
 
 draw-rows-requires : tie.Need-draw-rows-requires
@@ -85,7 +89,8 @@ draw-rows-requires c κs =
     let call = parsed .before .before .before in
     let start = call .before .before .before .before .before in
     let input = now (start .args .input) in
-    let l = lined {input = input} {out = now (start .args .out)} (start .pre) (omega arith) (call .answer-and-mark .kept .1 .1 .0) (call .answer-and-mark .ensures) in
+    let made = call .answer-and-mark in
+    let l = lined {input = input} {out = now (start .args .out)} (start .pre) (omega arith) (made .kept .1 .1 .0) (made .ensures) in
     room-rows l _ _ _ (parsed-as input (told .width .given .1) (parsed .parse .ensures)) (c .before .before .before .if1 .left) (c .before .before .if2 .left)
 
 same-length-4 : tie.Need-same-length-4
@@ -98,8 +103,11 @@ returns-4 c =
     let call = parsed .before .before .before in
     let start = call .before .before .before .before .before in
     let input = now (start .args .input) in
-    let l = lined {input = input} {out = now (start .args .out)} (start .pre) (omega arith) (call .answer-and-mark .kept .1 .1 .0) (call .answer-and-mark .ensures) in
-    drawn l _ _ _ (parsed-as input (told .width .given .1) (parsed .parse .ensures)) (c .before .before .before .before .before .before .if1 .left) (c .before .before .before .before .before .if2 .left) _ (c .before .before .draw-rows .ensures)
+    let made = call .answer-and-mark in
+    let l = lined {input = input} {out = now (start .args .out)} (start .pre) (omega arith) (made .kept .1 .1 .0) (made .ensures) in
+    let high = c .before .before .before .before .before in
+    let k = parsed-as input (told .width .given .1) (parsed .parse .ensures) in
+    drawn l _ _ _ k (high .before .if1 .left) (high .if2 .left) _ (c .before .before .draw-rows .ensures)
 
 pub draw-spec : {M : Type 1} → statement M
 draw-spec =
