@@ -25,11 +25,11 @@ pub record IsEmpty (input : List ℕ) : Type 0 where
   pub picture : IsPicture input
   pub zero : (picture .width ≡ 0) ⊎ (picture .height ≡ 0)
 
--- the program's line, for every input
+-- the program's line, for every input: one of three
 pub record Answered (input : List ℕ) : Type 0 where
-  pub other : (programLine input ≡ refusedLine 11) ↔ (IsPicture input → ⊥)
-  pub none : (programLine input ≡ refusedLine 1) ↔ IsEmpty input
-  pub numbers :
+  pub no-picture : (programLine input ≡ refusedLine 11) ↔ (IsPicture input → ⊥)
+  pub empty-picture : (programLine input ≡ refusedLine 1) ↔ IsEmpty input
+  pub picture :
       (w h : ℕ) (f : Form input w h) → 0 < w → 0 < h →
       let c = readingOf settings w h (f .pixels) in
       programLine input ≡ line (w ∷ h ∷ c .dark ∷ c .light ∷ c .skipped ∷ c .tally .comparisons ∷ [])
@@ -79,17 +79,17 @@ module _ (input : List ℕ) where
 
   pub answered : Answered input
   answered = record {
-    other = (
+    no-picture = (
       λ e. ⊎-elim (λ p. p .1) (λ p. absurd (omega (arith, p .0))) (refused-only 11 e),
       λ none. line-other input (λ w h f. none (record { width = w; height = h; form = f })),
     );
-    none = (
+    empty-picture = (
       λ e. ⊎-elim (λ p. absurd (omega (arith, p .0))) (λ p. p .1) (refused-only 1 e),
       λ z.
           let p = z .picture in
           by-sides (p .width) (p .height) (p .form) true (side-zero (p .width) (p .height) (z .zero)),
     );
-    numbers = λ w h f W H.
+    picture = λ w h f W H.
         let a : w ≡ 0 → ⊥ = λ z. omega arith in
         let b : h ≡ 0 → ⊥ = λ z. omega arith in
         by-sides w h f false (rw (ne-eqb w 0 a, ne-eqb h 0 b));

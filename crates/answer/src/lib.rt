@@ -15,13 +15,13 @@ ghost use Rattle.pgm.specs.Line.{Writes};
 // The number of an input that is no picture.
 pub const MALFORMED: u32 = 11;
 
-// The pixels of the largest picture, 60 × 60.
+// The pixels of the largest picture, 60 × 60, which a destination holds.
 pub const PIXELS: usize = pgm::SIDE_LIMIT * pgm::SIDE_LIMIT;
 
 // The bytes of the longest header, "P5 60 60 255" and a line feed.
 const HEADER: usize = 13;
 
-// What a program reads of its input: one byte more than the longest picture has, so that a byte too many is seen.
+// What a program reads of its input, 3,614 bytes: one more than the longest picture has, so that a byte too many is seen.
 pub const INPUT: usize = HEADER + PIXELS + 1;
 
 // A buffer that holds any line.
@@ -30,7 +30,8 @@ pub const LINE: usize = pgm::LINE_ROOM;
 // The tiles of the largest picture, each 16 × 16.
 const TILES: usize = 4 * 4;
 
-// The workspaces that a reading of the largest picture asks for: 9wh + 2t bytes and 2(w + 1)(h + 1) + 5t u64s.
+// The workspaces that a reading of the largest picture asks for: 9wh + 2t bytes, 32,432, and 2(w + 1)(h + 1) + 5t u64s,
+// 7,522.
 const BYTES: usize = 9 * PIXELS + 2 * TILES;
 
 const WORDS: usize = 2 * (pgm::SIDE_LIMIT + 1) * (pgm::SIDE_LIMIT + 1) + 5 * TILES;

@@ -10,7 +10,7 @@ ghost use Rattle.image.specs.Plane.{pixel};
 ghost use Rattle.answer.specs.Program.{Prints, PrintsStart};
 ghost use Rattle.column.specs.Drawing.{inkOf, rowByte, programDrawing, drawingRoom, Room, DrawsRows};
 
-// A buffer that holds any line, and 60 rows of 60 marks and a line feed.
+// A buffer that holds any line, and 60 rows of 60 marks and a line feed: 3,788 bytes.
 const DRAWING: usize = answer::LINE + (pgm::SIDE_LIMIT + 1) * pgm::SIDE_LIMIT;
 
 // Gives the mark of a destination's byte: the settings mark a dark pixel with 0.
