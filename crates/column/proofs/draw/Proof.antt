@@ -5,7 +5,6 @@ use mathlib.Core.Path.{refl, sym}
 use lib.Seq.{length-take-le}
 use denote.Ref.{now}
 use Rattle.pgm.specs.declared.Parsed.the-variants.{Malformed}
-use Rattle.pgm.specs.Line.{lineRoom}
 use Rattle.pgm.specs.ParseLaws.{parsed-as}
 use Rattle.column.proofs.Drawn.{lined, undrawn, undrawn-wide, undrawn-high, length-marks, room-rows, drawn}
 use Rattle.column.proofs.draw.Statement.{statement}
@@ -15,7 +14,7 @@ slice-relend-prefix-answer-and-mark : tie.Need-slice-relend-prefix-answer-and-ma
 slice-relend-prefix-answer-and-mark c = search needs
 
 slice-aggregate-answer-and-mark : tie.Need-slice-aggregate-answer-and-mark
-slice-aggregate-answer-and-mark c = let s = c .before .before .before .before in sym (length-take-le lineRoom (now (s .args .out)) (omega (arith, s .pre)))
+slice-aggregate-answer-and-mark c = let s = c .before .before .before .before in sym (length-take-le _ (now (s .args .out)) (omega (arith, s .pre)))
 
 answer-and-mark-requires : tie.Need-answer-and-mark-requires
 answer-and-mark-requires c κs = search needs
