@@ -2,7 +2,7 @@
 use Prim.Native.Nat.{ℕ, _-_, _≤_}
 use native.Mathlib.Omega.{arith}
 use mathlib.Core.Path.{_≡_, refl, sym, ap, subst, _∙_}
-use mathlib.Core.List.{List, [], _∷_, _++_}
+use mathlib.Core.List.{List}
 use lib.ListN.{length, drop, take, length-append, length-drop}
 use lib.Seq.{take-length}
 use Rattle.imgproc.specs.declared.illumination.BackgroundDivideConfig.{BackgroundDivideConfig}
@@ -14,12 +14,11 @@ use Rattle.imgproc.specs.Division.{divisionDefaults}
 use Rattle.imgproc.specs.Grid.{gridDefaults}
 use Rattle.imgproc.specs.Sauvola.{sauvolaDefaults}
 use Rattle.imgproc.specs.Reading.{Reads}
-use Rattle.pgm.specs.declared.Parsed.{Parsed}
 use Rattle.pgm.specs.declared.Parsed.the-variants.{Picture, Malformed}
 use Rattle.pgm.specs.Form.{header, Form, Answers}
-use Rattle.pgm.specs.FormLaws.{same-header}
+use Rattle.pgm.specs.FormLaws.{same-header, after-header}
 use Rattle.pgm.specs.Line.{refusedLine, Writes}
-use Rattle.answer.specs.Answer.{settings, lentTo, answerOf, AnswersPicture, AnswersMalformed, AnswersInput}
+use Rattle.answer.specs.Answer.{settings, Buffers, lentTo, leftBy, answerOf, AnswersPicture, AnswersMalformed, AnswersInput}
 
 -- the settings of three parts, with m = 3
 abbrev pub joined : BackgroundDivideConfig → TileThresholdConfig → SauvolaConfig → ReadingConfig
@@ -37,24 +36,16 @@ line-of w h out {n = n} out′ e x = subst (λ (r : Read). Writes (answerOf w h 
 pub refused-of : {n m : ℕ} (out : List ℕ) {k : ℕ} (out′ : List ℕ) → n ≡ m → Writes (refusedLine n) out k out′ → Writes (refusedLine m) out k out′
 refused-of out {k = k} out′ e x = subst (λ (n : ℕ). Writes (refusedLine n) out k out′) e x
 
-module _ (w h : ℕ) (pixels dst bytes words out : List ℕ) {n : ℕ} (dst′ bytes′ words′ out′ : List ℕ) where
-  -- a picture that was read with the settings, and the line of what was read
-  pub answered : {s : ReadingConfig} {read : Read} → s ≡ settings → Reads (lentTo w h pixels dst bytes words s) read (record { dst = dst′; bytes = bytes′; words = words′ }) → Writes (answerOf w h read) out n out′ →
-      AnswersPicture w h pixels dst bytes words out n dst′ bytes′ words′ out′
-  answered {read = read} e r x =
-      let q : Reads (lentTo w h pixels dst bytes words settings) read (record { dst = dst′; bytes = bytes′; words = words′ }) = subst (λ (s : ReadingConfig). Reads (lentTo w h pixels dst bytes words s) read (record { dst = dst′; bytes = bytes′; words = words′ })) e r in
-      record {
-        writes = subst (λ (a : Read). Writes (answerOf w h a) out n out′) (q .answers) x;
-        reads = record { answers = refl; leaves = q .leaves; bytes-left = q .bytes-left; words-left = q .words-left };
-      }
-
--- what stands after a header
-drop-header : (l m : List ℕ) → drop (length l) (l ++ m) ≡ m
-drop-header [] m = refl
-drop-header (x ∷ l) m = drop-header l m
-
-pub parsed-as : (l : List ℕ) {r s : Parsed} → r ≡ s → Answers l r → Answers l s
-parsed-as l e a = subst (λ (s : Parsed). Answers l s) e a
+-- a picture that was read with the settings, and the line of what was read
+pub answered : (w h : ℕ) (pixels : List ℕ) {lent left : Buffers} {n : ℕ} {s : ReadingConfig} {read : Read} →
+    s ≡ settings → Reads (lentTo w h pixels lent s) read (leftBy left) → Writes (answerOf w h read) (lent .out) n (left .out) →
+    AnswersPicture w h pixels lent n left
+answered w h pixels {lent} {left} {n} {read = read} e r x =
+    let q = subst (λ (s : ReadingConfig). Reads (lentTo w h pixels lent s) read (leftBy left)) e r in
+    record {
+      writes = subst (λ (a : Read). Writes (answerOf w h a) (lent .out) n (left .out)) (q .answers) x;
+      reads = record { answers = refl; leaves = q .leaves; bytes-left = q .bytes-left; words-left = q .words-left };
+    }
 
 module _ (l : List ℕ) (w h at : ℕ) (p : Answers l (Picture w h at)) where
   pub pixels-start : at ≤ length l
@@ -65,25 +56,24 @@ module _ (l : List ℕ) (w h at : ℕ) (p : Answers l (Picture w h at)) where
   pixels-are v g f =
       let k = p .0 in
       let s = same-header w h v g (k .pixels) (f .pixels) (k .wide) (k .high) (f .wide) (f .high) (sym (k .whole) ∙ f .whole) in
-      let d : drop at l ≡ k .pixels = ap (λ (i : ℕ). drop i l) (p .1) ∙ ap (drop (length (header w h))) (k .whole) ∙ drop-header (header w h) (k .pixels) in
+      let d : drop at l ≡ k .pixels = ap (λ (i : ℕ). drop i l) (p .1) ∙ after-header l w h k in
       let rest = ap (λ (i : ℕ). take i (drop at l)) (sym (length-drop at l)) ∙ take-length (drop at l) in
       (s .0, (s .1 .0, rest ∙ d ∙ s .1 .1))
 
-module _ (l dst bytes words out : List ℕ) {n : ℕ} (dst′ bytes′ words′ out′ : List ℕ) where
+module _ (l : List ℕ) {lent left : Buffers} {n : ℕ} where
   -- a picture
-  pub answers-picture : (w h at : ℕ) → Answers l (Picture w h at) → AnswersPicture w h (take (length l - at) (drop at l)) dst bytes words out n dst′ bytes′ words′ out′ →
-      AnswersInput l dst bytes words out n dst′ bytes′ words′ out′
+  pub answers-picture : (w h at : ℕ) → Answers l (Picture w h at) → AnswersPicture w h (take (length l - at) (drop at l)) lent n left → AnswersInput l lent n left
   answers-picture w h at p a = record {
     picture = λ v g f.
         let s = pixels-are l w h at p v g f in
-        subst (λ (x : ℕ). AnswersPicture x g (f .pixels) dst bytes words out n dst′ bytes′ words′ out′) (s .0)
-        (subst (λ (y : ℕ). AnswersPicture w y (f .pixels) dst bytes words out n dst′ bytes′ words′ out′) (s .1 .0)
-        (subst (λ (q : List ℕ). AnswersPicture w h q dst bytes words out n dst′ bytes′ words′ out′) (s .1 .1) a));
+        subst (λ (x : ℕ). AnswersPicture x g (f .pixels) lent n left) (s .0)
+        (subst (λ (y : ℕ). AnswersPicture w y (f .pixels) lent n left) (s .1 .0)
+        (subst (λ (q : List ℕ). AnswersPicture w h q lent n left) (s .1 .1) a));
     other = λ none. absurd (none w h (p .0));
   }
 
   -- any other input
-  pub answers-other : Answers l Malformed → AnswersMalformed dst bytes words out n dst′ bytes′ words′ out′ → AnswersInput l dst bytes words out n dst′ bytes′ words′ out′
+  pub answers-other : Answers l Malformed → AnswersMalformed lent n left → AnswersInput l lent n left
   answers-other none a = record {
     picture = λ w h f. absurd (none w h f);
     other = λ _. a;

@@ -3,16 +3,16 @@ use Prim.Native.Nat.{ℕ}
 use mathlib.Core.Path.{_≡_}
 use mathlib.Core.List.{List, [], _∷_}
 use lib.IntN.{pos}
-use lib.ListN.{length}
 use Rattle.image.specs.declared.Geometry.{Geometry}
-use Rattle.image.specs.Plane.{packed}
 use Rattle.imgproc.specs.declared.grid.TileThresholdMethod.the-variants.{Midrange}
 use Rattle.imgproc.specs.declared.reading.ReadingConfig.{ReadingConfig}
+use Rattle.imgproc.specs.declared.reading.ReadingCounts.{ReadingCounts}
 use Rattle.imgproc.specs.declared.reading.Read.{Read}
 use Rattle.imgproc.specs.declared.reading.Read.the-variants.{Counts, Refused}
 use Rattle.imgproc.specs.Refusals.{errorNumber}
-use Rattle.imgproc.specs.Reading.{readingOf, readingCheck, readBy, ReadingLent, Reads}
-use Rattle.pgm.specs.Form.{Form}
+use Rattle.imgproc.specs.Reading.{readBy, ReadingLent, ReadingLeft, readingCheckOf, countsOf, Reads}
+use Rattle.pgm.specs.declared.Parsed.the-variants.{Malformed}
+use Rattle.pgm.specs.Form.{Form, parsedNumber}
 use Rattle.pgm.specs.Line.{line, refusedLine, Writes}
 
 -- document 01: element 31, target 200, floor 8; m = 3; Midrange tiles 16 by 16, radius 1, offset 0, contrast floor 12; radius 8,
@@ -25,40 +25,58 @@ settings = record {
   sauvola = record { radius = 8; «k_milli» = 200; «dynamic_range» = 128; «dark_value» = 0; «light_value» = 255 };
 }
 
--- the number of an input that is no picture
-abbrev pub malformed : ℕ
-malformed = 11
-
 -- a picture of w by h without padding
 abbrev pub tight : ℕ → ℕ → Geometry
 tight w h = record { width = w; height = h; stride = w }
 
--- the answer of the reading of a picture of w by h, with a destination and workspaces of these lengths
-abbrev pub readOf : ℕ → ℕ → List ℕ → ℕ → ℕ → ℕ → Read
-readOf w h pixels dst bytes words = readBy (readingCheck (length pixels) (tight w h) dst (tight w h) settings bytes words) (readingOf settings w h (packed pixels w h w))
+-- what `answer` is lent beside the input, and what is left of it: a destination, two workspaces and a line
+pub record Buffers : Type 0 where
+  pub dst : List ℕ
+  pub bytes : List ℕ
+  pub words : List ℕ
+  pub out : List ℕ
 
--- what a reading of a picture of w by h is lent
-abbrev pub lentTo : ℕ → ℕ → List ℕ → List ℕ → List ℕ → List ℕ → ReadingConfig → ReadingLent
-lentTo w h pixels dst bytes words s = record { src = pixels; source = tight w h; dst = dst; target = tight w h; settings = s; bytes = bytes; words = words }
+-- what a reading of a picture of w by h is lent, what it leaves, and what it answers
+abbrev pub lentTo : ℕ → ℕ → List ℕ → Buffers → ReadingConfig → ReadingLent
+lentTo w h pixels lent s =
+    record {
+      src = pixels;
+      source = tight w h;
+      dst = lent .dst;
+      target = tight w h;
+      settings = s;
+      bytes = lent .bytes;
+      words = lent .words;
+    }
 
--- the line of a reading's answer: width, height, dark, light, skipped, comparisons; or the refusal's number
+abbrev pub leftBy : Buffers → ReadingLeft
+leftBy left = record { dst = left .dst; bytes = left .bytes; words = left .words }
+
+abbrev pub readOf : ReadingLent → Read
+readOf lent = readBy (readingCheckOf lent) (countsOf lent)
+
+-- the line of a reading's counts: width, height, dark, light, skipped, comparisons
+abbrev pub countsLine : ℕ → ℕ → ReadingCounts → List ℕ
+countsLine w h c = line (w ∷ h ∷ c .dark ∷ c .light ∷ c .skipped ∷ c .tally .comparisons ∷ [])
+
+-- the line of a reading's answer: its counts, or the refusal's number
 abbrev pub answerOf : ℕ → ℕ → Read → List ℕ
-answerOf w h (Counts c) = line (w ∷ h ∷ c .dark ∷ c .light ∷ c .skipped ∷ c .tally .comparisons ∷ [])
+answerOf w h (Counts c) = countsLine w h c
 answerOf w h (Refused e) = refusedLine (errorNumber e)
 
 -- the answer to a picture: its line is written, and the destination and the workspaces are as the reading leaves them
-pub record AnswersPicture (w h : ℕ) (pixels dst bytes words out : List ℕ) (answer : ℕ) (dst′ bytes′ words′ out′ : List ℕ) : Type 0 where
-  pub writes : Writes (answerOf w h (readOf w h pixels (length dst) (length bytes) (length words))) out answer out′
-  pub reads : Reads (lentTo w h pixels dst bytes words settings) (readOf w h pixels (length dst) (length bytes) (length words)) (record { dst = dst′; bytes = bytes′; words = words′ })
+pub record AnswersPicture (w h : ℕ) (pixels : List ℕ) (lent : Buffers) (answer : ℕ) (left : Buffers) : Type 0 where
+  pub writes : Writes (answerOf w h (readOf (lentTo w h pixels lent settings))) (lent .out) answer (left .out)
+  pub reads : Reads (lentTo w h pixels lent settings) (readOf (lentTo w h pixels lent settings)) (leftBy left)
 
 -- the answer to an input that is no picture: refusal 11 is written, and every other buffer is as it was
-pub record AnswersMalformed (dst bytes words out : List ℕ) (answer : ℕ) (dst′ bytes′ words′ out′ : List ℕ) : Type 0 where
-  pub writes : Writes (refusedLine malformed) out answer out′
-  pub dst-left : dst′ ≡ dst
-  pub bytes-left : bytes′ ≡ bytes
-  pub words-left : words′ ≡ words
+pub record AnswersMalformed (lent : Buffers) (answer : ℕ) (left : Buffers) : Type 0 where
+  pub writes : Writes (refusedLine (parsedNumber Malformed)) (lent .out) answer (left .out)
+  pub dst-left : left .dst ≡ lent .dst
+  pub bytes-left : left .bytes ≡ lent .bytes
+  pub words-left : left .words ≡ lent .words
 
 -- the contract of `answer`: of a picture, for the sides and the pixels of its form; of any other input, refusal 11
-pub record AnswersInput (input dst bytes words out : List ℕ) (answer : ℕ) (dst′ bytes′ words′ out′ : List ℕ) : Type 0 where
-  pub picture : (w h : ℕ) → (f : Form input w h) → AnswersPicture w h (f .pixels) dst bytes words out answer dst′ bytes′ words′ out′
-  pub other : ((w h : ℕ) → Form input w h → ⊥) → AnswersMalformed dst bytes words out answer dst′ bytes′ words′ out′
+pub record AnswersInput (input : List ℕ) (lent : Buffers) (answer : ℕ) (left : Buffers) : Type 0 where
+  pub picture : (w h : ℕ) → (f : Form input w h) → AnswersPicture w h (f .pixels) lent answer left
+  pub other : ((w h : ℕ) → Form input w h → ⊥) → AnswersMalformed lent answer left

@@ -2,4 +2,6 @@
 pub mod Answer
 pub mod Program
 pub mod ProgramLaws
+pub mod ProgramMeans
+pub mod RoomLaws
 pub mod Examples

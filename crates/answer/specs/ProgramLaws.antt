@@ -1,81 +1,73 @@
--- The program's line and marks are those of the picture that the input is; and a program that reads one byte more than the longest
--- picture has knows them of the whole input. Assumes nothing.
-use Prim.Native.Nat.{ℕ, _≤_, _<_}
+-- The program's line and marks by the form of the input; and the first bytes of an input, one more than the longest picture
+-- has, have the line of the whole. Assumes nothing.
+use Prim.Native.Nat.{ℕ, _≤_}
 use native.Mathlib.Omega.{arith}
 use mathlib.Core.Path.{_≡_, refl, sym, ap, subst, _∙_}
 use mathlib.Core.Bool.{Bool, cond}
-use mathlib.Core.Logic.{⊎-elim}
 use mathlib.Core.List.{List, _++_}
 use lib.ListN.{length, take, drop, length-append}
-use lib.Seq.{drop-append-seam, length-take-le}
+use lib.Seq.{length-take-le}
 use borrow.Author.Tests.{le-ltb}
 use Rattle.pgm.specs.declared.Parsed.{Parsed}
 use Rattle.pgm.specs.declared.Parsed.the-variants.{Picture, Malformed}
-use Rattle.pgm.specs.Form.{header, Form, Answers}
+use Rattle.pgm.specs.Form.{header, Form, inputLimit, parsedNumber, Answers}
+use Rattle.pgm.specs.FormLaws.{after-header}
 use Rattle.pgm.specs.Line.{lineRoom, refusedLine, Writes}
-use Rattle.pgm.specs.Parse.{parsedOf, longest}
-use Rattle.pgm.specs.ParseLaws.{parsed-answers, parsed-once, cut}
-use Rattle.answer.specs.Answer.{malformed}
-use Rattle.answer.specs.Program.{pictureLine, pictureMarks, lineBy, marksBy, programLine, programMarks, Prints, PrintsRead}
+use Rattle.pgm.specs.ParseLaws.{parsed-by, start-parsed}
+use Rattle.answer.specs.Program.{pictureLine, pictureMarks, lineBy, marksBy, programLine, programMarks}
+use Rattle.answer.specs.Program.{Prints, ReadPart, PrintsStart}
 
 -- ---- the line and the marks by the form
 
 module _ (input : List ℕ) where
-  of-line : (r : Parsed) → Answers input r → programLine input ≡ lineBy r input
-  unfolding programLine
-  of-line r a = ap (λ (p : Parsed). lineBy p input) (parsed-once input (parsedOf input) r (parsed-answers input) a)
-
-  of-marks : (r : Parsed) → Answers input r → (dst : List ℕ) → programMarks input dst ≡ marksBy r input dst
-  unfolding programMarks
-  of-marks r a dst = ap (λ (p : Parsed). marksBy p input dst) (parsed-once input (parsedOf input) r (parsed-answers input) a)
-
-  after-header : (w h : ℕ) (f : Form input w h) → drop (length (header w h)) input ≡ f .pixels
-  after-header w h f = ap (drop (length (header w h))) (f .whole) ∙ drop-append-seam (header w h) (f .pixels)
-
   pub line-picture : (w h : ℕ) (f : Form input w h) → programLine input ≡ pictureLine w h (f .pixels)
-  line-picture w h f = of-line (Picture w h (length (header w h))) (f, refl) ∙ ap (pictureLine w h) (after-header w h f)
+  unfolding programLine
+  line-picture w h f =
+      parsed-by lineBy input (Picture w h (length (header w h))) (f, refl) ∙ ap (pictureLine w h) (after-header input w h f)
 
-  pub line-other : ((w h : ℕ) → Form input w h → ⊥) → programLine input ≡ refusedLine malformed
-  line-other none = of-line Malformed none
+  pub line-other : Answers input Malformed → programLine input ≡ refusedLine (parsedNumber Malformed)
+  unfolding programLine
+  line-other none = parsed-by lineBy input Malformed none
 
-  pub marks-picture : (w h : ℕ) (f : Form input w h) (dst : List ℕ) → programMarks input dst ≡ pictureMarks w h (f .pixels) dst
-  marks-picture w h f dst = of-marks (Picture w h (length (header w h))) (f, refl) dst ∙ ap (λ (p : List ℕ). pictureMarks w h p dst) (after-header w h f)
+  pub marks-by : (r : Parsed) → Answers input r → (dst : List ℕ) → programMarks input dst ≡ marksBy r input dst
+  unfolding programMarks
+  marks-by r a dst = ap (λ (f : List ℕ → List ℕ). f dst) (parsed-by marksBy input r a)
 
-  pub marks-other : ((w h : ℕ) → Form input w h → ⊥) → (dst : List ℕ) → programMarks input dst ≡ dst
-  marks-other none dst = of-marks Malformed none dst
+  pub marks-picture : (w h : ℕ) (f : Form input w h) (dst : List ℕ) →
+      programMarks input dst ≡ pictureMarks w h (f .pixels) dst
+  marks-picture w h f dst =
+      marks-by (Picture w h (length (header w h))) (f, refl) dst
+      ∙ ap (λ (p : List ℕ). pictureMarks w h p dst) (after-header input w h f)
 
 -- ---- the first bytes are enough
 
--- for anything that is made of the picture that an input is, and is one and the same for every other input
-pub by-cut : {A : Type 0} (by : Parsed → List ℕ → A) → ((a b : List ℕ) → by Malformed a ≡ by Malformed b) → (whole : List ℕ) (m : ℕ) → longest < m →
-    by (parsedOf (take m whole)) (take m whole) ≡ by (parsedOf whole) whole
-by-cut by same whole m enough =
-    ⊎-elim (λ e. ap (λ (l : List ℕ). by (parsedOf l) l) e)
-    (λ n.
-    ap (λ (p : Parsed). by p (take m whole)) (parsed-once (take m whole) (parsedOf (take m whole)) Malformed (parsed-answers (take m whole)) (n .1))
-    ∙ same (take m whole) whole
-    ∙ ap (λ (p : Parsed). by p whole) (sym (parsed-once whole (parsedOf whole) Malformed (parsed-answers whole) (n .0))))
-    (cut whole m enough)
-
-pub line-cut : (whole : List ℕ) (m : ℕ) → longest < m → programLine (take m whole) ≡ programLine whole
+-- an input and its first 3,614 bytes, or more of them, have the same line
+pub line-start : (input : List ℕ) (m : ℕ) → inputLimit ≤ m → programLine (take m input) ≡ programLine input
 unfolding programLine
-line-cut whole m enough = by-cut lineBy (λ a b. refl) whole m enough
+line-start input m enough = start-parsed input m enough lineBy (λ a b. refl)
 
 -- a line that is written where there is room for any
-pub printed : (text before : List ℕ) {n : ℕ} (after : List ℕ) → lineRoom ≤ length before → Writes text before n after → Prints text before n after
+pub printed : (text before : List ℕ) {n : ℕ} (after : List ℕ) → lineRoom ≤ length before → Writes text before n after →
+    Prints text before n after
 printed text before after l x = record {
   answers = x .answers ∙ ap (λ (b : Bool). cond b 0 (length text)) (le-ltb (length before) lineRoom l);
   leaves = x .leaves ∙ ap (λ (b : Bool). cond b before (text ++ drop (length text) before)) (le-ltb (length before) lineRoom l);
 }
 
--- so what was read is enough
-module _ (program : List ℕ → List ℕ) (cuts : (whole : List ℕ) (m : ℕ) → longest < m → program (take m whole) ≡ program whole) where
-  pub prints-read : (buffer : List ℕ) (n : ℕ) (got out : List ℕ) {answer : ℕ} (out′ : List ℕ) → got ≡ take n buffer → longest < length buffer → Prints (program got) out answer out′ →
-      PrintsRead program buffer n out answer out′
-  prints-read buffer n got out {answer} out′ g room a = record {
-    within = (inside, sym (length-take-le answer out′ inside));
-    every = λ input e. subst (λ (t : List ℕ). Prints t out answer out′) (ap program (g ∙ e) ∙ cuts input (length buffer) room) a;
-  }
-    where
-      inside : answer ≤ length out′
-      inside = omega (arith, a .answers, ap length (a .leaves) ∙ length-append (program got) (drop (length (program got)) out))
+-- a program for which the first bytes are enough answers what was read of an input as it answers the whole
+module _ (program : List ℕ → List ℕ)
+    (starts : (input : List ℕ) (m : ℕ) → inputLimit ≤ m → program (take m input) ≡ program input)
+  where
+    pub prints-start : (buffer : List ℕ) (n : ℕ) (got out : List ℕ) {answer : ℕ} (out′ : List ℕ) → ReadPart buffer n got →
+        Prints (program got) out answer out′ → PrintsStart program buffer n out answer out′
+    prints-start buffer n got out {answer} out′ g a = record {
+      within = (inside, sym (length-take-le answer out′ inside));
+      every = λ input e.
+          let same = ap program (g .first ∙ e) ∙ starts input (length buffer) (g .enough) in
+          subst (λ (t : List ℕ). Prints t out answer out′) same a;
+    }
+      where
+        inside : answer ≤ length out′
+        inside =
+            let text = program got in
+            omega (arith, a .answers, ap length (a .leaves) ∙ length-append text (drop (length text) out))

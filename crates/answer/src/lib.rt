@@ -9,13 +9,34 @@ use imgproc::threshold::SauvolaConfig;
 use pgm::Parsed;
 ghost use mathlib.Core.Path.{_≡_};
 ghost use Rattle.answer.specs.Answer.{settings, answerOf, AnswersPicture, AnswersInput};
-ghost use Rattle.answer.specs.Program.{programLine, AnswersWhole, PrintsRead};
+ghost use Rattle.answer.specs.Program.{programLine, AnswersAndMarks, ReadPart, PrintsStart};
 ghost use Rattle.pgm.specs.Line.{Writes};
 
 // The number of an input that is no picture.
 pub const MALFORMED: u32 = 11;
 
-// The Rust's settings, and an opening with kernel 3.
+// The pixels of the largest picture, 60 × 60, which a destination holds.
+pub const PIXELS: usize = pgm::SIDE_LIMIT * pgm::SIDE_LIMIT;
+
+// The bytes of the longest header, "P5 60 60 255" and a line feed.
+const HEADER: usize = 13;
+
+// What a program reads of its input, 3,614 bytes: one more than the longest picture has, so that a byte too many is seen.
+pub const INPUT: usize = HEADER + PIXELS + 1;
+
+// A buffer that holds any line.
+pub const LINE: usize = pgm::LINE_ROOM;
+
+// The tiles of the largest picture, each 16 × 16.
+const TILES: usize = 4 * 4;
+
+// The workspaces that a reading of the largest picture asks for: 9wh + 2t bytes, 32,432, and 2(w + 1)(h + 1) + 5t u64s,
+// 7,522.
+const BYTES: usize = 9 * PIXELS + 2 * TILES;
+
+const WORDS: usize = 2 * (pgm::SIDE_LIMIT + 1) * (pgm::SIDE_LIMIT + 1) + 5 * TILES;
+
+// Gives the Rust's settings, and an opening with kernel 3.
 fn settings() -> ReadingConfig
     ensures { λ r. ⌜ r ≡ settings ⌝ }
 {
@@ -57,7 +78,10 @@ fn answer_picture(
     words: &mut [u64],
     out: &mut [u8],
 ) -> usize
-    ensures { λ r. ⌜ AnswersPicture width height (now (pixels .entry)) (now (dst .entry)) (now (bytes .entry)) (now (words .entry)) (now (out .entry)) r (now (dst .exit)) (now (bytes .exit)) (now (words .exit)) (now (out .exit)) ⌝ }
+    ensures { λ r. ⌜ AnswersPicture width height (now (pixels .entry))
+        (record { dst = now (dst .entry); bytes = now (bytes .entry); words = now (words .entry); out = now (out .entry) })
+        r
+        (record { dst = now (dst .exit); bytes = now (bytes .exit); words = now (words .exit); out = now (out .exit) }) ⌝ }
 {
     let geometry = Geometry {
         width: width,
@@ -78,7 +102,10 @@ pub fn answer(
     words: &mut [u64],
     out: &mut [u8],
 ) -> usize
-    ensures { λ r. ⌜ AnswersInput (now (input .entry)) (now (dst .entry)) (now (bytes .entry)) (now (words .entry)) (now (out .entry)) r (now (dst .exit)) (now (bytes .exit)) (now (words .exit)) (now (out .exit)) ⌝ }
+    ensures { λ r. ⌜ AnswersInput (now (input .entry))
+        (record { dst = now (dst .entry); bytes = now (bytes .entry); words = now (words .entry); out = now (out .entry) })
+        r
+        (record { dst = now (dst .exit); bytes = now (bytes .exit); words = now (words .exit); out = now (out .exit) }) ⌝ }
 {
     let Parsed::Picture(width, height, at) = pgm::parse(input) else {
         return pgm::refused_line(MALFORMED, out);
@@ -86,39 +113,32 @@ pub fn answer(
     answer_picture(&input[at..], width, height, dst, bytes, words, out)
 }
 
-// The lengths of what a program lends: one byte more than the longest picture, so that a byte too many is seen; the largest
-// picture; room for any line.
-pub const INPUT: usize = 3614;
-
-pub const PIXELS: usize = 3600;
-
-pub const LINE: usize = 128;
-
-// Nine planes, and two bytes for each of 16 tiles.
-const BYTES: usize = 32432;
-
-// Two tables of 61 × 61, and five numbers for each of 16 tiles.
-const WORDS: usize = 7522;
-
-// Answers an input of any length with workspaces of its own, and marks its picture in a destination. A buffer of less than
-// pgm::LINE_ROOM bytes is left as it is, and the answer is 0.
-pub fn answer_whole(input: &[u8], dst: &mut [u8; PIXELS], out: &mut [u8]) -> usize
-    ensures { λ r. ⌜ AnswersWhole (now (input .entry)) (now (dst .entry)) (now (out .entry)) r (now (dst .exit)) (now (out .exit)) ⌝ }
+// Answers an input of any length with workspaces of its own, and marks its picture in a destination. A line buffer of
+// less than LINE bytes is left as it is, and the answer is 0.
+pub fn answer_and_mark(input: &[u8], dst: &mut [u8; PIXELS], out: &mut [u8]) -> usize
+    ensures { λ r. ⌜ AnswersAndMarks (now (input .entry)) (now (dst .entry)) (now (out .entry))
+        r (now (dst .exit)) (now (out .exit)) ⌝ }
 {
     let mut bytes = [0u8; BYTES];
     let mut words = [0u64; WORDS];
     answer(input, dst, &mut bytes, &mut words, out)
 }
 
-// Answers what a program has read of its input: the first n bytes of the buffer are as many of the input's as it holds, or
-// the whole input.
-pub fn answer_read(buffer: &[u8; INPUT], n: usize, line: &mut [u8; LINE]) -> usize
-    ensures { λ r. ⌜ PrintsRead programLine (now (buffer .entry)) n (now (line .entry)) r (now (line .exit)) ⌝ }
+// Gives the part of a buffer that was read: its first n bytes, or all of it.
+pub fn read_part(buffer: &[u8; INPUT], n: usize) -> &[u8]
+    ensures { λ r. ⌜ ReadPart (now (buffer .entry)) n (now r) ⌝ }
 {
-    let mut dst = [0u8; PIXELS];
     let all: &[u8] = buffer;
     if INPUT < n {
-        return answer_whole(all, &mut dst, line);
+        return all;
     }
-    answer_whole(&all[..n], &mut dst, line)
+    &all[..n]
+}
+
+// Answers an input by its first bytes, n of which were read into the buffer: as many as it holds, or the whole input.
+pub fn answer_start(buffer: &[u8; INPUT], n: usize, line: &mut [u8; LINE]) -> usize
+    ensures { λ r. ⌜ PrintsStart programLine (now (buffer .entry)) n (now (line .entry)) r (now (line .exit)) ⌝ }
+{
+    let mut dst = [0u8; PIXELS];
+    answer_and_mark(read_part(buffer, n), &mut dst, line)
 }

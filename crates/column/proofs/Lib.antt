@@ -1,4 +1,3 @@
 -- The laws that the proofs of this crate share.
-pub mod Writes
 pub mod Rows
 pub mod Drawn

@@ -1,2 +1,3 @@
--- What the contracts of `column` say.
+-- What the contracts of `column` say, and the laws about it.
 pub mod Drawing
+pub mod DrawingLaws

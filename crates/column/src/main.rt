@@ -1,5 +1,5 @@
-// Reads a picture as the program `reading` does, writes the same line, and draws under it the rows of the destination: '#'
-// for each pixel that is judged dark, '.' for every other. Of an input that is refused nothing is drawn.
+// Reads a picture as the program `reading` does, writes the same line, and draws under it the rows of the destination:
+// '#' for each pixel that is judged dark, '.' for every other. Of an input that is refused nothing is drawn.
 use libc::STDIN_FILENO;
 use libc::STDOUT_FILENO;
 use pgm::Parsed;
@@ -7,13 +7,13 @@ ghost use Prim.Native.Nat.{_+_, _*_, _≤_, _<_};
 ghost use mathlib.Core.Path.{_≡_};
 ghost use lib.ListN.{length};
 ghost use Rattle.image.specs.Plane.{pixel};
-ghost use Rattle.answer.specs.Program.{Prints, PrintsRead};
-ghost use Rattle.column.specs.Drawing.{inkOf, rowByte, programDrawing, Room, DrawsRows};
+ghost use Rattle.answer.specs.Program.{Prints, PrintsStart};
+ghost use Rattle.column.specs.Drawing.{inkOf, rowByte, programDrawing, drawingRoom, Room, DrawsRows};
 
-// Room for any line, and for 60 rows of 60 marks and a line feed.
-const DRAWING: usize = 3788;
+// A buffer that holds any line, and 60 rows of 60 marks and a line feed: 3,788 bytes.
+const DRAWING: usize = answer::LINE + (pgm::SIDE_LIMIT + 1) * pgm::SIDE_LIMIT;
 
-// The dark value of the settings that a program answers with is 0.
+// Gives the mark of a destination's byte: the settings mark a dark pixel with 0.
 fn ink(value: u8) -> u8
     ensures { λ r. ⌜ r ≡ inkOf value ⌝ }
 {
@@ -23,6 +23,7 @@ fn ink(value: u8) -> u8
     b'.'
 }
 
+// Gives byte x of a drawn row: a mark, or the line feed that ends the row.
 fn row_byte(pixels: &[u8], width: usize, x: usize, y: usize) -> u8
     requires { ⌜ ((x ≡ width → ⊥) → y * width + x < length (now pixels)) ⌝ }
     ensures { λ r. ⌜ r ≡ rowByte (λ x y. inkOf (pixel (now (pixels .entry)) width x y)) width x y ⌝ }
@@ -33,6 +34,7 @@ fn row_byte(pixels: &[u8], width: usize, x: usize, y: usize) -> u8
     ink(pixels[y * width + x])
 }
 
+// Draws the rows of a picture from `at` on, and answers the place after them.
 fn draw_rows(pixels: &[u8], width: usize, height: usize, out: &mut [u8], at: usize) -> usize
     requires { ⌜ Room (now pixels) width height (now out) at ⌝ }
     ensures { λ r. ⌜ DrawsRows (now (pixels .entry)) width height (now (out .entry)) at r (now (out .exit)) ⌝ }
@@ -47,13 +49,13 @@ fn draw_rows(pixels: &[u8], width: usize, height: usize, out: &mut [u8], at: usi
     at + total
 }
 
-// What the program writes for an input of any length.
-fn draw_whole(input: &[u8], out: &mut [u8]) -> usize
-    requires { ⌜ 3788 ≤ length (now out) ⌝ }
+// Writes the line of an input of any length and the rows of its picture, and answers how many bytes they are.
+fn draw(input: &[u8], out: &mut [u8]) -> usize
+    requires { ⌜ drawingRoom ≤ length (now out) ⌝ }
     ensures { λ r. ⌜ Prints (programDrawing (now (input .entry))) (now (out .entry)) r (now (out .exit)) ⌝ }
 {
     let mut dst = [0u8; answer::PIXELS];
-    let length = answer::answer_whole(input, &mut dst, &mut out[..answer::LINE]);
+    let length = answer::answer_and_mark(input, &mut dst, &mut out[..answer::LINE]);
     let Parsed::Picture(width, height, _) = pgm::parse(input) else {
         return length;
     };
@@ -66,20 +68,18 @@ fn draw_whole(input: &[u8], out: &mut [u8]) -> usize
     draw_rows(&dst, width, height, out, length)
 }
 
-fn draw_read(buffer: &[u8; answer::INPUT], n: usize, out: &mut [u8; DRAWING]) -> usize
-    ensures { λ r. ⌜ PrintsRead programDrawing (now (buffer .entry)) n (now (out .entry)) r (now (out .exit)) ⌝ }
+// Draws an input by its first bytes, n of which were read into the buffer: as many as it holds, or the whole input.
+fn draw_start(buffer: &[u8; answer::INPUT], n: usize, out: &mut [u8; DRAWING]) -> usize
+    ensures { λ r. ⌜ PrintsStart programDrawing (now (buffer .entry)) n (now (out .entry)) r (now (out .exit)) ⌝ }
 {
-    let all: &[u8] = buffer;
-    if answer::INPUT < n {
-        return draw_whole(all, out);
-    }
-    draw_whole(&all[..n], out)
+    draw(answer::read_part(buffer, n), out)
 }
 
+// Reads the first bytes of the input, draws them and writes the drawing.
 fn main() {
     let mut input = [0u8; answer::INPUT];
     let mut out = [0u8; DRAWING];
     let n = io::read_full(STDIN_FILENO, &mut input);
-    let length = draw_read(&input, n, &mut out);
+    let length = draw_start(&input, n, &mut out);
     io::write_all(STDOUT_FILENO, &out[..length]);
 }

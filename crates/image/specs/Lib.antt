@@ -12,5 +12,6 @@ pub mod PaintLaws
 pub mod Views
 pub mod RowLaws
 pub mod CopyLaws
+pub mod WriteLaws
 pub mod PaintRows
 pub mod FillLaws

@@ -13,7 +13,6 @@ pub mod CornerLaws
 pub mod VerdictLaws
 pub mod Answers
 pub mod Folds
-pub mod Writes
 pub mod JudgeLaws
 pub mod ReadingRuns
 pub mod ReadingDone

@@ -98,6 +98,12 @@ decimal-value n = each-decimal (λ n ds. valueFrom 0 ds ≡ n)
     (λ n ds l e. valueFrom-last 0 ds (digit (n % 10)) ∙ omega arith)
     n
 
+-- two numbers whose texts, and one byte after each, are the same are one
+pub decimal-once : (n m d : ℕ) → decimal n ++ (d ∷ []) ≡ decimal m ++ (d ∷ []) → n ≡ m
+decimal-once n m d e =
+    let v = sym (valueFrom-last 0 (decimal n) d) ∙ ap (valueFrom 0) e ∙ valueFrom-last 0 (decimal m) d in
+    omega (arith, v, decimal-value n, decimal-value m)
+
 -- ---- digits alone, and the first
 
 -- every byte is a digit

@@ -1,5 +1,5 @@
 -- The one form of input that is accepted: "P5 w h 255", a line feed, and w × h bytes. Definitions only.
-use Prim.Native.Nat.{ℕ, _*_, _≤_}
+use Prim.Native.Nat.{ℕ, _+_, _*_, _≤_}
 use mathlib.Core.Path.{_≡_}
 use mathlib.Core.List.{List, [], _∷_, _++_}
 use lib.ListN.{length}
@@ -31,7 +31,31 @@ pub record Form (input : List ℕ) (w h : ℕ) : Type 0 where
   pub counted : length pixels ≡ w * h
   pub whole : input ≡ header w h ++ pixels
 
--- the contract of `parse`: a picture is of the form and its pixels start after the header; what is malformed is of the form for no sides
+-- the input is a picture: it has the form, for some sides
+pub record IsPicture (input : List ℕ) : Type 0 where
+  pub width : ℕ
+  pub height : ℕ
+  pub form : Form input width height
+
+-- the most bytes that a header has: "P5 60 60 255" and a line feed
+abbrev pub headerLimit : ℕ
+headerLimit = 13
+
+-- the most bytes that a picture has: such a header and 60 × 60 pixels, 3,613
+abbrev pub longest : ℕ
+longest = headerLimit + sideLimit * sideLimit
+
+-- the first bytes of an input that tell whether it is a picture, and which: one more than any picture has, 3,614
+abbrev pub inputLimit : ℕ
+inputLimit = longest + 1
+
+-- document 01's number of what was parsed: 0 for a picture, 11 for input of any other form
+abbrev pub parsedNumber : Parsed → ℕ
+parsedNumber (Picture w h at) = 0
+parsedNumber Malformed = 11
+
+-- the contract of `parse`: a picture is of the form and its pixels start after the header; what is malformed is of the form
+-- for no sides
 abbrev pub Answers : List ℕ → Parsed → Type 0
 Answers input (Picture w h at) = Form input w h × (at ≡ length (header w h))
 Answers input Malformed = (w h : ℕ) → Form input w h → ⊥

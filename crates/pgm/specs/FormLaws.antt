@@ -1,13 +1,16 @@
--- A header can be read in one way only, so an input is of the form for at most one pair of sides. Assumes nothing.
-use Prim.Native.Nat.{ℕ, _/_, _%_, _≤_, _<_}
+-- A header can be read in one way only, so an input is of the form for at most one pair of sides; and how long a picture
+-- is. Assumes nothing.
+use Prim.Native.Nat.{ℕ, _*_, _/_, _%_, _≤_, _<_}
+use native.Mathlib.Nat.{mul-le-mul}
 use native.Mathlib.Omega.{arith}
-use mathlib.Core.Path.{_≡_, sym, ap, _∙_}
+use mathlib.Core.Path.{_≡_, refl, sym, ap, _∙_}
 use mathlib.Core.List.{List, _∷_, _++_, append-assoc}
 use mathlib.Core.Logic.{⊎-elim}
-use lib.ListN.{drop}
-use Rattle.pgm.specs.Decimal.{digit, decimal}
-use Rattle.pgm.specs.DecimalLaws.{small-or, decimal-one, decimal-two}
-use Rattle.pgm.specs.Form.{sideLimit, magic, ending, header, Form}
+use lib.ListN.{length, drop, length-append}
+use lib.Seq.{drop-append-seam}
+use Rattle.pgm.specs.Decimal.{digit, digitsOf, decimal}
+use Rattle.pgm.specs.DecimalLaws.{small-or, decimal-one, decimal-two, decimal-short}
+use Rattle.pgm.specs.Form.{sideLimit, magic, ending, header, Form, headerLimit, longest}
 
 -- two sides, each followed by a space, in the same bytes
 abbrev pub Same : ℕ → ℕ → List ℕ → List ℕ → Type 0
@@ -61,3 +64,24 @@ pub form-once : (input : List ℕ) (w h v g : ℕ) → Form input w h → Form i
 form-once input w h v g f k =
     let s = same-header w h v g (f .pixels) (k .pixels) (f .wide) (f .high) (k .wide) (k .high) (sym (f .whole) ∙ k .whole) in
     (s .0, s .1 .0)
+
+-- what follows the header is the pixels
+pub after-header : (input : List ℕ) (w h : ℕ) (f : Form input w h) → drop (length (header w h)) input ≡ f .pixels
+after-header input w h f = ap (drop (length (header w h))) (f .whole) ∙ drop-append-seam (header w h) (f .pixels)
+
+-- ---- how long a picture is
+
+-- no header is longer than the limit, and the one of the largest sides is as long
+pub header-short : (w h : ℕ) → w ≤ sideLimit → h ≤ sideLimit → length (header w h) ≤ headerLimit
+header-short w h ww hh = simp length-append (omega (arith, decimal-short w 1 (omega arith), decimal-short h 1 (omega arith)))
+
+pub header-longest : length (header sideLimit sideLimit) ≡ headerLimit
+unfolding decimal digitsOf
+header-longest = refl
+
+-- no picture is longer than the longest
+pub form-short : (input : List ℕ) (w h : ℕ) → Form input w h → length input ≤ longest
+form-short input w h f =
+    let l = ap length (f .whole) ∙ length-append (header w h) (f .pixels) in
+    let a : w * h ≤ sideLimit * sideLimit = mul-le-mul (f .wide) (f .high) in
+    omega (arith, f .counted, header-short w h (f .wide) (f .high))

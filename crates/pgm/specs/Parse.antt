@@ -6,7 +6,7 @@ use lib.Dec.{eqb}
 use lib.ListN.{length}
 use Rattle.pgm.specs.declared.Parsed.{Parsed}
 use Rattle.pgm.specs.declared.Parsed.the-variants.{Picture, Malformed}
-use Rattle.pgm.specs.Form.{header}
+use Rattle.pgm.specs.Form.{sideLimit, header}
 
 -- whether the bytes begin with a text
 abbrev pub begins : List ℕ → List ℕ → Bool
@@ -18,16 +18,18 @@ begins (x ∷ text) (b ∷ bytes) = eqb b x && begins text bytes
 abbrev pub formed : List ℕ → ℕ → ℕ → Bool
 formed input w h = eqb (length input) (length (header w h) + w * h) && begins (header w h) input
 
--- the first of n pairs of sides, 61 of each, of which the input is a picture
+-- how many lengths a side can have: from 0 to the limit
+abbrev pub sides : ℕ
+sides = sideLimit + 1
+
+-- the one of the first n pairs of sides, w × 61 + h of them before (w, h), of which the input is a picture
 unfoldable pub sought : List ℕ → ℕ → Parsed
 sought input zero = Malformed
-sought input (suc n) = cond (formed input (n / 61) (n % 61)) (Picture (n / 61) (n % 61) (length (header (n / 61) (n % 61)))) (sought input n)
+sought input (suc n) =
+    let w = n / sides in
+    let h = n % sides in cond (formed input w h) (Picture w h (length (header w h))) (sought input n)
 
--- the sides from 0 to 60 of which the input is a picture, and where its pixels start; or that there are none
+-- the sides of which the input is a picture, and where its pixels start; or that there are none
 unfoldable pub parsedOf : List ℕ → Parsed
 unfolding sought
-parsedOf input = sought input 3721
-
--- the bytes of the longest picture: a header of 13, and 60 × 60 pixels
-abbrev pub longest : ℕ
-longest = 3613
+parsedOf input = sought input (sides * sides)

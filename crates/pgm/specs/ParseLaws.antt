@@ -1,11 +1,10 @@
--- What is parsed is the form, for the one pair of sides that an input has; and the bytes that the longest picture has, and one more,
--- tell of any input whether it is a picture. Assumes nothing.
+-- What is parsed is the form, for the one pair of sides that an input has; and the first bytes of an input, one more than
+-- the longest picture has, tell what is parsed of the whole. Assumes nothing.
 use Prim.Native.Nat.{ℕ, zero, suc, _+_, _*_, _/_, _%_, _≤_, _<_}
-use native.Mathlib.Nat.{mul-le-mul}
 use native.Mathlib.Omega.{arith}
-use mathlib.Core.Path.{_≡_, refl, sym, ap, _∙_}
+use mathlib.Core.Path.{_≡_, refl, sym, ap, ap₂, subst, _∙_}
 use mathlib.Core.Bool.{Bool, true, false, cond, _&&_}
-use mathlib.Core.Logic.{_⊎_, inl, inr}
+use mathlib.Core.Logic.{_⊎_, inl, inr, ⊎-elim}
 use mathlib.Core.List.{List, [], _∷_, _++_}
 use lib.Dec.{eqb, ltb}
 use lib.ListN.{length, take, drop, length-append, length-drop}
@@ -13,10 +12,9 @@ use lib.Seq.{take-all, length-take-le}
 use borrow.Author.Tests.{eqb-true, eqb-false, eq-eqb, ltb-true, ltb-false}
 use Rattle.pgm.specs.declared.Parsed.{Parsed}
 use Rattle.pgm.specs.declared.Parsed.the-variants.{Picture, Malformed}
-use Rattle.pgm.specs.DecimalLaws.{decimal-short}
-use Rattle.pgm.specs.Form.{header, Form, Answers}
-use Rattle.pgm.specs.FormLaws.{same-header}
-use Rattle.pgm.specs.Parse.{begins, formed, sought, parsedOf, longest}
+use Rattle.pgm.specs.Form.{sideLimit, header, Form, inputLimit, Answers}
+use Rattle.pgm.specs.FormLaws.{same-header, form-short}
+use Rattle.pgm.specs.Parse.{begins, formed, sides, sought, parsedOf}
 
 -- of two tests both hold
 both : (a b : Bool) → (a && b) ≡ true → (a ≡ true) × (b ≡ true)
@@ -38,7 +36,7 @@ begins-append : (text rest : List ℕ) → begins text (text ++ rest) ≡ true
 begins-append [] rest = refl
 begins-append (x ∷ text) rest = rw (eq-eqb x x refl, begins-append text rest)
 
-formed-form : (input : List ℕ) (w h : ℕ) → w ≤ 60 → h ≤ 60 → formed input w h ≡ true → Form input w h
+formed-form : (input : List ℕ) (w h : ℕ) → w ≤ sideLimit → h ≤ sideLimit → formed input w h ≡ true → Form input w h
 formed-form input w h ww hh e =
     let p = both (eqb (length input) (length (header w h) + w * h)) (begins (header w h) input) e in
     let l = eqb-true (length input) (length (header w h) + w * h) (p .0) in
@@ -52,46 +50,55 @@ formed-form input w h ww hh e =
 
 form-formed : (input : List ℕ) (w h : ℕ) → Form input w h → formed input w h ≡ true
 form-formed input w h f =
-    let l : length input ≡ length (header w h) + w * h = ap length (f .whole) ∙ length-append (header w h) (f .pixels) ∙ ap (λ (k : ℕ). length (header w h) + k) (f .counted) in
-    let b : begins (header w h) input ≡ true = ap (begins (header w h)) (f .whole) ∙ begins-append (header w h) (f .pixels) in
-    rw (eq-eqb (length input) (length (header w h) + w * h) l, b)
+    let start = header w h in
+    let l : length input ≡ length start + w * h = ap length (f .whole) ∙ length-append start (f .pixels) ∙ omega (arith, f .counted) in
+    let b : begins start input ≡ true = ap (begins start) (f .whole) ∙ begins-append start (f .pixels) in
+    rw (eq-eqb (length input) (length start + w * h) l, b)
 
 -- ---- what is sought is found
 
 -- what is known after n pairs
 abbrev Found : List ℕ → ℕ → Parsed → Type 0
 Found input n (Picture w h at) = Form input w h × (at ≡ length (header w h))
-Found input n Malformed = (k : ℕ) → k < n → formed input (k / 61) (k % 61) ≡ false
+Found input n Malformed = (k : ℕ) → k < n → formed input (k / sides) (k % sides) ≡ false
 
-found-more : (input : List ℕ) (n : ℕ) (b : Bool) (r : Parsed) → n < 3721 → formed input (n / 61) (n % 61) ≡ b → Found input n r →
-    Found input (suc n) (cond b (Picture (n / 61) (n % 61) (length (header (n / 61) (n % 61)))) r)
-found-more input n true r l e k = (formed-form input (n / 61) (n % 61) (omega arith) (omega arith) e, refl)
+found-more : (input : List ℕ) (n : ℕ) (b : Bool) (r : Parsed) → n < sides * sides →
+    formed input (n / sides) (n % sides) ≡ b → Found input n r →
+    Found input (suc n) (cond b (Picture (n / sides) (n % sides) (length (header (n / sides) (n % sides)))) r)
+found-more input n true r l e k = (formed-form input (n / sides) (n % sides) (omega arith) (omega arith) e, refl)
 found-more input n false (Picture w h at) l e k = k
 found-more input n false Malformed l e k = λ i p. either i p (eqb i n) refl
   where
-    either : (i : ℕ) → i < suc n → (b : Bool) → eqb i n ≡ b → formed input (i / 61) (i % 61) ≡ false
-    either i p true q = ap (λ (j : ℕ). formed input (j / 61) (j % 61)) (eqb-true i n q) ∙ e
+    either : (i : ℕ) → i < suc n → (b : Bool) → eqb i n ≡ b → formed input (i / sides) (i % sides) ≡ false
+    either i p true q = ap (λ (j : ℕ). formed input (j / sides) (j % sides)) (eqb-true i n q) ∙ e
     either i p false q = k i (let d : i ≡ n → ⊥ = eqb-false i n q in omega arith)
 
-found : (input : List ℕ) (n : ℕ) → n ≤ 3721 → Found input n (sought input n)
+found : (input : List ℕ) (n : ℕ) → n ≤ sides * sides → Found input n (sought input n)
 unfolding sought
 found input zero l = λ i p. absurd (omega arith)
-found input (suc n) l = found-more input n (formed input (n / 61) (n % 61)) (sought input n) (omega arith) refl (found input n (omega arith))
+found input (suc n) l =
+    let here = formed input (n / sides) (n % sides) in
+    found-more input n here (sought input n) (omega arith) refl (found input n (omega arith))
 
-answers-found : (input : List ℕ) (r : Parsed) → Found input 3721 r → Answers input r
+answers-found : (input : List ℕ) (r : Parsed) → Found input (sides * sides) r → Answers input r
 answers-found input (Picture w h at) k = k
 answers-found input Malformed k = λ w h f.
-    let i : (w * 61 + h) / 61 ≡ w = omega (arith, f .wide, f .high) in
-    let j : (w * 61 + h) % 61 ≡ h = omega (arith, f .wide, f .high) in
-    let no = k (w * 61 + h) (omega (arith, f .wide, f .high)) in
-    let yes : formed input ((w * 61 + h) / 61) ((w * 61 + h) % 61) ≡ true = ap (λ (n : ℕ). formed input n ((w * 61 + h) % 61)) i ∙ ap (λ (n : ℕ). formed input w n) j ∙ form-formed input w h f in
+    let n = w * sides + h in
+    let i : n / sides ≡ w = omega (arith, f .wide, f .high) in
+    let j : n % sides ≡ h = omega (arith, f .wide, f .high) in
+    let no = k n (omega (arith, f .wide, f .high)) in
+    let yes : formed input (n / sides) (n % sides) ≡ true = ap₂ (formed input) i j ∙ form-formed input w h f in
     let z : _≡_ {A = ℕ} 0 1 = cc (yes, no) in
     omega arith
+
+-- what is known of an answer, once it is known which it is
+pub parsed-as : (input : List ℕ) {r s : Parsed} → r ≡ s → Answers input r → Answers input s
+parsed-as input e a = subst (λ (p : Parsed). Answers input p) e a
 
 -- the parse of any input meets what pgm's `parse` promises, and nothing else does
 pub parsed-answers : (input : List ℕ) → Answers input (parsedOf input)
 unfolding parsedOf
-parsed-answers input = answers-found input (sought input 3721) (found input 3721 (omega arith))
+parsed-answers input = answers-found input (sought input (sides * sides)) (found input (sides * sides) (omega arith))
 
 pub parsed-once : (input : List ℕ) (r s : Parsed) → Answers input r → Answers input s → r ≡ s
 parsed-once input (Picture w h at) (Picture v g to) p q =
@@ -107,26 +114,32 @@ parsed-once input (Picture w h at) Malformed p q = absurd (q w h (p .0))
 parsed-once input Malformed (Picture v g to) p q = absurd (p v g (q .0))
 parsed-once input Malformed Malformed p q = refl
 
+-- anything that is made of what is parsed, once an answer is known
+pub parsed-by : {A : Type 0} (by : Parsed → List ℕ → A) (input : List ℕ) (r : Parsed) → Answers input r →
+    by (parsedOf input) input ≡ by r input
+parsed-by by input r a = ap (λ (p : Parsed). by p input) (parsed-once input (parsedOf input) r (parsed-answers input) a)
+
 -- ---- the first bytes are enough
 
-header-short : (w h : ℕ) → w ≤ 60 → h ≤ 60 → length (header w h) ≤ 13
-header-short w h ww hh = simp length-append (omega (arith, decimal-short w 1 (omega arith), decimal-short h 1 (omega arith)))
-
--- no picture is longer than the longest
-pub form-short : (input : List ℕ) (w h : ℕ) → Form input w h → length input ≤ longest
-form-short input w h f =
-    let l = ap length (f .whole) ∙ length-append (header w h) (f .pixels) in
-    let c = f .counted in
-    let a : w * h ≤ 3600 = mul-le-mul (f .wide) (f .high) in
-    omega (arith, header-short w h (f .wide) (f .high))
-
-module _ (whole : List ℕ) (m : ℕ) (enough : longest < m) where
-  -- all of the input, or none of both is a picture
-  pub cut : (take m whole ≡ whole) ⊎ (((w h : ℕ) → Form whole w h → ⊥) × ((w h : ℕ) → Form (take m whole) w h → ⊥))
-  cut = go (ltb m (length whole)) refl
+-- as many of an input are all of it, or neither they nor the input are a picture
+module _ (input : List ℕ) (m : ℕ) (enough : inputLimit ≤ m) where
+  start : (take m input ≡ input) ⊎ (Answers input Malformed × Answers (take m input) Malformed)
+  start = go (ltb m (length input)) refl
     where
-      go : (b : Bool) → ltb m (length whole) ≡ b → (take m whole ≡ whole) ⊎ (((w h : ℕ) → Form whole w h → ⊥) × ((w h : ℕ) → Form (take m whole) w h → ⊥))
-      go false e = inl (take-all m whole (ltb-false m (length whole) e))
+      go : (b : Bool) → ltb m (length input) ≡ b →
+          (take m input ≡ input) ⊎ (Answers input Malformed × Answers (take m input) Malformed)
+      go false e = inl (take-all m input (ltb-false m (length input) e))
       go true e =
-          let l = ltb-true m (length whole) e in
-          inr ((λ w h f. omega (arith, form-short whole w h f)), (λ w h f. omega (arith, form-short (take m whole) w h f, length-take-le m whole (omega arith))))
+          let l = ltb-true m (length input) e in
+          let t = length-take-le m input (omega arith) in
+          inr ((λ w h f. omega (arith, form-short input w h f)), (λ w h f. omega (arith, form-short (take m input) w h f, t)))
+
+  -- so anything made of what is parsed, that is the same for all inputs that are no picture, is that of the first bytes
+  pub start-parsed : {A : Type 0} (by : Parsed → List ℕ → A) → ((a b : List ℕ) → by Malformed a ≡ by Malformed b) →
+      by (parsedOf (take m input)) (take m input) ≡ by (parsedOf input) input
+  start-parsed by same =
+      ⊎-elim (λ e. ap (λ (l : List ℕ). by (parsedOf l) l) e)
+      (λ none.
+      parsed-by by (take m input) Malformed (none .1) ∙ same (take m input) input
+      ∙ sym (parsed-by by input Malformed (none .0)))
+      start

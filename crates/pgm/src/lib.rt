@@ -27,7 +27,7 @@ enum Side {
     Malformed,
 }
 
-// The byte at a place, and 256 past the end.
+// Gives the byte at a place, and 256 past the end.
 fn byte_at(input: &[u8], at: usize) -> usize
     ensures { λ r. ⌜ r ≡ getD (now (input .entry)) at 256 ⌝ }
 {
@@ -38,7 +38,7 @@ fn byte_at(input: &[u8], at: usize) -> usize
     }
 }
 
-// The digit at a place, and 10 where no digit stands.
+// Gives the digit at a place, and 10 where no digit stands.
 fn digit_at(input: &[u8], at: usize) -> usize
     ensures { λ r. ⌜ Digit (getD (now (input .entry)) at 256) r ⌝ }
 {
@@ -52,7 +52,7 @@ fn digit_at(input: &[u8], at: usize) -> usize
     byte - 48
 }
 
-// Whether a text stands at a place.
+// Tells whether a text stands at a place.
 fn stands(input: &[u8], at: usize, text: &[u8]) -> bool
     requires { ⌜ at ≤ length (now input) ⌝ }
     ensures { λ r. ⌜ Stands (now (input .entry)) at (now (text .entry)) r ⌝ }
@@ -70,7 +70,7 @@ fn stands(input: &[u8], at: usize, text: &[u8]) -> bool
     true
 }
 
-// The side at a place, with the space that ends it. One or two digits are enough for the limit.
+// Reads the side at a place and the space that ends it. One or two digits are enough for the limit.
 fn read_side(input: &[u8], at: usize) -> Side
     requires { ⌜ at ≤ length (now input) ⌝ }
     ensures { λ r. ⌜ ReadsSide (now (input .entry)) at r ⌝ }
@@ -99,7 +99,7 @@ fn read_side(input: &[u8], at: usize) -> Side
     Side::Number(side, at + 3)
 }
 
-// The sides that a header names, and where it ends.
+// Reads the sides that a header names, and tells where it ends.
 fn read_header(input: &[u8]) -> Parsed
     ensures { λ r. ⌜ ReadsHeader (now (input .entry)) r ⌝ }
 {
@@ -118,7 +118,7 @@ fn read_header(input: &[u8]) -> Parsed
     Parsed::Picture(width, height, last + 4)
 }
 
-// The picture that an input is: its sides and where its pixels start, or that it has another form.
+// Parses an input: gives the sides of the picture that it is and where its pixels start, or that it has another form.
 pub fn parse(input: &[u8]) -> Parsed
     ensures { λ r. ⌜ Answers (now (input .entry)) r ⌝ }
 {

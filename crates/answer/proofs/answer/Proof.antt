@@ -2,7 +2,8 @@
 use borrow.Author.Needs.{needs}
 use denote.Ref.{now}
 use mathlib.Core.Path.{refl}
-use Rattle.answer.proofs.Ways.{parsed-as, pixels-start, answers-picture, answers-other}
+use Rattle.pgm.specs.ParseLaws.{parsed-as}
+use Rattle.answer.proofs.Ways.{pixels-start, answers-picture, answers-other}
 use Rattle.answer.proofs.answer.Statement.{statement}
 use Rattle.answer.proofs.answer.Tie as tie
 
@@ -27,7 +28,8 @@ returns c =
     let told = call .before .before in
     let parsed = told .before .before in
     let a = parsed .before .before .before .before .before .before .args in
-    answers-other (now (a .input)) (now (a .dst)) (now (a .bytes)) (now (a .words)) (now (a .out)) _ _ _ _ (parsed-as (now (a .input)) (told .enum-told .given .1) (parsed .parse .ensures)) (record { writes = call .refused-line .ensures; dst-left = refl; bytes-left = refl; words-left = refl })
+    answers-other (now (a .input)) (parsed-as (now (a .input)) (told .enum-told .given .1) (parsed .parse .ensures))
+    (record { writes = call .refused-line .ensures; dst-left = refl; bytes-left = refl; words-left = refl })
 
 sub-answer-picture : tie.Need-sub-answer-picture
 sub-answer-picture c =
@@ -68,7 +70,7 @@ returns-2 c =
     let parsed = told .before .before in
     let a = parsed .before .before .before .before .before .before .args in
     let l = now (a .input) in
-    answers-picture l (now (a .dst)) (now (a .bytes)) (now (a .words)) (now (a .out)) _ _ _ _ _ _ _ (parsed-as l (told .width .given .1) (parsed .parse .ensures)) (call .answer-picture .ensures)
+    answers-picture l _ _ _ (parsed-as l (told .width .given .1) (parsed .parse .ensures)) (call .answer-picture .ensures)
 
 pub answer-spec : {M : Type 1} → statement M
 answer-spec =

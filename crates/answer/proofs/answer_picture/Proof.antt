@@ -32,7 +32,7 @@ returns c =
     let read = call .before .before .before .before .before .before .before .before in
     let made = read .before .before .before .before in
     let a = made .before .before .before .before .before .before .args in
-    answered (a .width) (a .height) (now (a .pixels)) (now (a .dst)) (now (a .bytes)) (now (a .words)) (now (a .out)) _ _ _ _ (made .settings .ensures) (read .reading .ensures) (call .write-read .ensures)
+    answered (a .width) (a .height) (now (a .pixels)) (made .settings .ensures) (read .reading .ensures) (call .write-read .ensures)
 
 pub answer-picture-spec : {M : Type 1} → statement M
 answer-picture-spec =

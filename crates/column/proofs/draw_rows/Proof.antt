@@ -1,13 +1,11 @@
 -- Each byte of the rows in turn. Assumes nothing.
 use Prim.Native.Nat.{ℕ, _+_, _-_, _*_, _≤_}
 use native.Mathlib.Omega.{arith}
-use mathlib.Core.Path.{_≡_, refl, sym, ap, _∙_}
-use mathlib.Core.List.{List}
-use lib.ListN.{length}
+use mathlib.Core.Path.{_≡_, refl, ap, _∙_}
 use denote.Ref.{now}
 use Rattle.image.specs.Plane.{tabulate, overwritten}
 use Rattle.image.specs.PlaneLaws.{plane-tabulated}
-use Rattle.column.proofs.Writes.{written-none, written-more, length-written}
+use Rattle.image.specs.WriteLaws.{written-none, written-more, length-written}
 use Rattle.column.proofs.Rows.{laid, inside}
 use Rattle.column.proofs.draw_rows.Statement.{statement}
 use Rattle.column.proofs.draw_rows.Tie as tie
@@ -45,7 +43,8 @@ slice-write-out : tie.Need-slice-write-out Inv-loop μ-loop
 slice-write-out c =
     let s = c .before .before .before .before .before in
     let l = c .before .before .loop in
-    omega (arith, s .pre .fits, length-written (laid (now (s .args .pixels)) (s .args .width)) (s .args .at) (l .i) (now (s .args .out)) (l .out) (omega (arith, s .pre .fits)) (l .inv .1))
+    let f = laid (now (s .args .pixels)) (s .args .width) in
+    omega (arith, s .pre .fits, length-written f (s .args .at) (l .i) (now (s .args .out)) (l .out) (omega (arith, s .pre .fits)) (l .inv .1))
 
 add-i : tie.Need-add-i Inv-loop μ-loop
 add-i c = omega arith
@@ -57,7 +56,9 @@ loop-again : tie.Need-loop-again Inv-loop μ-loop
 loop-again c =
     let s = c .before .before .before .before .before in
     let l = c .before .before .loop in
-    (omega arith, written-more (laid (now (s .args .pixels)) (s .args .width)) (s .args .at) (l .i) (c .row-byte .result) (now (s .args .out)) (l .out) (omega (arith, s .pre .fits)) (l .inv .1) (c .row-byte .ensures))
+    let f = laid (now (s .args .pixels)) (s .args .width) in
+    let e = c .row-byte .ensures in
+    (omega arith, written-more f (s .args .at) (l .i) _ (now (s .args .out)) (l .out) (omega (arith, s .pre .fits)) (l .inv .1) e)
 
 add-result : tie.Need-add-result Inv-loop μ-loop
 add-result c = omega arith

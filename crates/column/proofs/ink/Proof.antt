@@ -1,8 +1,5 @@
 -- The dark value is 0. Assumes nothing.
-use mathlib.Core.Path.{_≡_, sym, ap}
-use mathlib.Core.Bool.{Bool, cond}
 use borrow.Author.Tests.{eq-eqb, ne-eqb}
-use Prim.Native.Nat.{ℕ}
 use Rattle.column.proofs.ink.Statement.{statement}
 use Rattle.column.proofs.ink.Tie as tie
 

@@ -6,7 +6,7 @@ use Rattle.image.specs.Plane.{tabulate, overwritten}
 use Rattle.imgproc.specs.Grid.{tilesX, tilesY}
 use Rattle.imgproc.specs.Surface.{byteBy}
 use Rattle.imgproc.specs.Tiles.{Proper, SmallGrid, joinedAround}
-use Rattle.imgproc.proofs.Writes.{written-none, written-more, length-written}
+use Rattle.image.specs.WriteLaws.{written-none, written-more, length-written}
 use Rattle.imgproc.proofs.tiles.Counts.{total, some, few, column, row}
 use Rattle.imgproc.proofs.tiles.Neighbours.{around-joined, around-proper, small-grid}
 use borrow.Author.Needs.{needs}

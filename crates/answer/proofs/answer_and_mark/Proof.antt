@@ -1,10 +1,9 @@
 -- The lengths of the workspaces are enough. Assumes nothing.
 use borrow.Author.Needs.{needs}
 use native.Mathlib.Omega.{arith}
-use denote.Ref.{now}
 use Rattle.answer.proofs.Whole.{whole}
-use Rattle.answer.proofs.answer_whole.Statement.{statement}
-use Rattle.answer.proofs.answer_whole.Tie as tie
+use Rattle.answer.proofs.answer_and_mark.Statement.{statement}
+use Rattle.answer.proofs.answer_and_mark.Tie as tie
 
 slice-aggregate-answer : tie.Need-slice-aggregate-answer
 slice-aggregate-answer c = search needs
@@ -21,8 +20,8 @@ same-length c = search needs
 returns : tie.Need-returns
 returns c =
     let call = c .before .before .before .before in
-    whole _ _ _ _ _ _ _ _ _ (omega arith) (omega arith) (omega arith) (call .answer .ensures)
+    whole _ (omega arith) (omega arith) (omega arith) (call .answer .ensures)
 
-pub answer-whole-spec : {M : Type 1} → statement M
-answer-whole-spec =
+pub answer-and-mark-spec : {M : Type 1} → statement M
+answer-and-mark-spec =
     tie.close (tie.spec slice-aggregate-answer slice-aggregate-answer-2 answer-requires same-length returns)

@@ -1,0 +1,64 @@
+-- A picture of the accepted form with no zero side is read with the program's buffers, never refused; one with a zero side is
+-- refused as empty whatever is lent. Assumes nothing.
+use Prim.Native.Nat.{ℕ, _+_, _-_, _*_, _/_, _≤_, _<_}
+use native.Mathlib.Nat.{mul-le-mul, mul-comm}
+use native.Mathlib.Omega.{arith}
+use mathlib.Core.Path.{_≡_, refl, ap}
+use mathlib.Core.Bool.{true}
+use borrow.Author.Tests.{le-ltb, eq-eqb}
+use Rattle.image.specs.declared.LumaError.the-variants.{EmptyDimensions}
+use Rattle.image.specs.Layout.{Kept, layoutOf}
+use Rattle.image.specs.LayoutLaws.{kept-valid}
+use Rattle.imgproc.specs.declared.Check.the-variants.{Accepted, Refused}
+use Rattle.imgproc.specs.declared.ImgProcError.the-variants.{Image}
+use Rattle.imgproc.specs.GridCalls.{tileCount}
+use Rattle.imgproc.specs.Refusals.{tableEntries}
+use Rattle.imgproc.specs.Reading.{readingCheck}
+use Rattle.pgm.specs.Form.{sideLimit}
+use Rattle.answer.specs.Answer.{settings, tight}
+use Rattle.answer.specs.Program.{empty, mostPixels, mostTiles, mostBytes, mostWords}
+
+module _ (w h : ℕ) (W : 0 < w) (H : 0 < h) (ww : w ≤ sideLimit) (hh : h ≤ sideLimit) where
+  area : w * h ≤ mostPixels
+  area = mul-le-mul ww hh
+
+  -- the layout of w × h bytes without padding
+  kept : (len : ℕ) → w * h ≤ len → Kept len (tight w h)
+  kept len l = record {
+    wide = W;
+    high = H;
+    stride = omega arith;
+    fits = omega (arith, mul-comm w h, row);
+    small-width = omega arith;
+    small-height = omega arith;
+  }
+    where
+      row : w * (h - 1) + w ≡ w * h
+      row = let e : h - 1 + 1 ≡ h = omega arith in omega (arith, ap (λ (n : ℕ). w * n) e)
+
+  tiles : tileCount (settings .grid) w h ≤ mostTiles
+  tiles = mul-le-mul {n₁ = (w + 16 - 1) / 16} {m₁ = (h + 16 - 1) / 16} {n₂ = 4} {m₂ = 4} (omega arith) (omega arith)
+
+  entries : tableEntries w h ≤ tableEntries sideLimit sideLimit
+  entries =
+      let side = sideLimit + 1 in
+      omega (arith, mul-le-mul {n₁ = w + 1} {m₁ = h + 1} {n₂ = side} {m₂ = side} (omega arith) (omega arith))
+
+  pub room-enough : (pixels dst bytes words : ℕ) →
+      w * h ≤ pixels → mostPixels ≤ dst → mostBytes ≤ bytes → mostWords ≤ words →
+      readingCheck pixels (tight w h) dst (tight w h) settings bytes words ≡ Accepted
+  room-enough pixels dst bytes words p d b q =
+      rw (
+        kept-valid (kept pixels p),
+        kept-valid (kept dst (omega (arith, area))),
+        eq-eqb w w refl,
+        eq-eqb h h refl,
+        le-ltb bytes (9 * (w * h) + 2 * tileCount (settings .grid) w h) (omega (arith, area, tiles)),
+        le-ltb words (tableEntries w h + 5 * tileCount (settings .grid) w h) (omega (arith, entries, tiles)),
+      )
+
+-- a zero side is refused before all else
+pub empty-refused : (w h pixels dst bytes words : ℕ) → empty w h ≡ true →
+    readingCheck pixels (tight w h) dst (tight w h) settings bytes words ≡ Refused (Image EmptyDimensions)
+unfolding layoutOf
+empty-refused w h pixels dst bytes words e = rw e
