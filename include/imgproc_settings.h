@@ -88,6 +88,18 @@ struct imgproc_reading_settings {
 };
 #define IMGPROC_READING_DEFAULTS { IMGPROC_DIVISION_DEFAULTS, 3, IMGPROC_GRID_DEFAULTS, IMGPROC_SAUVOLA_DEFAULTS }
 
+/* Settings for a column that is so many pixels wide, between its walls. docs/SETTINGS.md has what they find. */
+static inline struct imgproc_reading_settings imgproc_settings_for_column(size_t pixels) {
+    struct imgproc_reading_settings settings = IMGPROC_READING_DEFAULTS;
+    const size_t most = SIZE_MAX / 2, column = pixels == 0 ? 1 : pixels > most ? most : pixels;
+    settings.division.structuring_element = (column + column / 2 + 2) | 1;
+    settings.grid.neighborhood_radius = column / settings.grid.tile_width + 1;
+    settings.sauvola.radius = column;
+    settings.sauvola.k_milli = 130;
+    settings.sauvola.dynamic_range = 36;
+    return settings;
+}
+
 /* What a reading counts. Dark, light and skipped add up to the number of pixels. */
 struct imgproc_counts {
     uint64_t dark;
