@@ -88,15 +88,21 @@ struct imgproc_reading_settings {
 };
 #define IMGPROC_READING_DEFAULTS { IMGPROC_DIVISION_DEFAULTS, 3, IMGPROC_GRID_DEFAULTS, IMGPROC_SAUVOLA_DEFAULTS }
 
-/* Settings for a column that is so many pixels wide, between its walls. docs/SETTINGS.md has what they find. */
+/* Settings for a column that is so many pixels wide, between its walls. A number that is up to a tenth too small or a
+   quarter too large does as well. They were measured on made pictures of columns 8 to 320 pixels wide and up to a third
+   of the picture. At least 99 % of the liquid was found, and what else was judged dark was at most 1 % of it, where the
+   liquid is 0.4 to 0.85 times as bright as the empty column, the noise at most 2 grey levels, and the light loses no
+   more to the corners than 0.1 in a picture three columns wide, 0.15 in one of six, 0.2 in one of eight and 0.25 in one
+   of twelve. docs/SETTINGS.md has the tables, and what lies outside this range. Nothing of this is proved. */
 static inline struct imgproc_reading_settings imgproc_settings_for_column(size_t pixels) {
     struct imgproc_reading_settings settings = IMGPROC_READING_DEFAULTS;
-    const size_t most = SIZE_MAX / 2, column = pixels == 0 ? 1 : pixels > most ? most : pixels;
-    settings.division.structuring_element = (column + column / 2 + 2) | 1;
-    settings.grid.neighborhood_radius = column / settings.grid.tile_width + 1;
-    settings.sauvola.radius = column;
+    /* No picture has a wider one, and nothing below wraps. */
+    const size_t column = pixels < 2 ? 2 : pixels > 4096 ? 4096 : pixels;
+    settings.division.structuring_element = (column + column / 2) | 1;
+    settings.grid.neighborhood_radius = (column + settings.grid.tile_width - 1) / settings.grid.tile_width;
+    settings.sauvola.radius = column + column / 4;
     settings.sauvola.k_milli = 130;
-    settings.sauvola.dynamic_range = 36;
+    settings.sauvola.dynamic_range = 48;
     return settings;
 }
 

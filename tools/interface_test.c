@@ -123,7 +123,7 @@ static void compare_calls(void) {
     lent_skips.data = skips[0];
     lent_thresholds.len = lent_skips.len = imgproc_tiles(src.width, src.height, &s.grid);
 
-    /* Each workspace is as long as it is said to have to be, or one short; then 8 is answered, where nothing else is. */
+    /* Each workspace is as long as it is said to have to be, or one short: then 8 is answered where nothing else is. */
     fill();
     lent_bytes.len = imgproc_division_bytes(src.width, src.height) - (off == 4);
     named = imgproc_divide(src, to, &s.division, lent_bytes, &comparisons[0]);
@@ -219,12 +219,36 @@ static void compare_defaults(void) {
     uint32_t named, flat;
     fill();
     named = imgproc_read(src, to, &s, lent_bytes, lent_words, &counts);
-    flat = imgproc_reading(picture, 24 * 30, 24, 30, 24, dst[1], 24 * 30, 24, 30, 24, 31, 200, 8, 3, 16, 16, 1, 0, 12, 0,
-                           0.0, 1.0, 8, 200, 128, 0, 255, bytes[1], BYTES, words[1], WORDS, &dark, &light, &skipped,
+    flat = imgproc_reading(picture, 24 * 30, 24, 30, 24, dst[1], 24 * 30, 24, 30, 24, 31, 200, 8, 3, 16, 16, 1, 0, 12,
+                           0, 0.0, 1.0, 8, 200, 128, 0, 255, bytes[1], BYTES, words[1], WORDS, &dark, &light, &skipped,
                            &tally);
     same(named, flat, "the defaults");
     check(counts.dark == dark && counts.light == light && counts.skipped == skipped && counts.comparisons == tally,
           "the defaults' counts");
+    check(s.division.structuring_element == 31 && s.division.target_luma == 200 && s.division.denominator_floor == 8 &&
+              s.opening_kernel == 3 && s.grid.tile_width == 16 && s.grid.tile_height == 16 &&
+              s.grid.neighborhood_radius == 1 && s.grid.threshold_offset == 0 && s.grid.contrast_floor == 12 &&
+              s.grid.method == 0 && s.sauvola.radius == 8 && s.sauvola.k_milli == 200 &&
+              s.sauvola.dynamic_range == 128 && s.sauvola.dark_value == 0 && s.sauvola.light_value == 255,
+          "a default");
+}
+
+/* The settings for a column are those of the binding's test for_column: element, neighbourhood, radius. */
+static void check_columns(void) {
+    static const size_t expected[][4] = {{0, 3, 1, 2},     {1, 3, 1, 2},      {2, 3, 1, 2},        {8, 13, 1, 10},
+                                         {16, 25, 1, 20},  {17, 25, 2, 21},   {40, 61, 3, 50},     {319, 479, 20, 398},
+                                         {320, 481, 20, 400}, {4096, 6145, 256, 5120}, {SIZE_MAX, 6145, 256, 5120}};
+    size_t i;
+    for (i = 0; i < sizeof expected / sizeof *expected; i++) {
+        const struct imgproc_reading_settings s = imgproc_settings_for_column(expected[i][0]);
+        const struct imgproc_reading_settings d = IMGPROC_READING_DEFAULTS;
+        check(s.division.structuring_element == expected[i][1] && s.grid.neighborhood_radius == expected[i][2] &&
+                  s.sauvola.radius == expected[i][3] && s.sauvola.k_milli == 130 && s.sauvola.dynamic_range == 48,
+              "the settings for a column");
+        check(s.division.target_luma == d.division.target_luma && s.opening_kernel == d.opening_kernel &&
+                  s.grid.tile_width == d.grid.tile_width && s.grid.contrast_floor == d.grid.contrast_floor,
+              "the settings for a column that stay");
+    }
 }
 
 /* A length that does not fit is never a small number. */
@@ -268,6 +292,7 @@ int main(void) {
     int i;
     check_words();
     check_lengths();
+    check_columns();
     compare_defaults();
     for (i = 0; i < 4000; i++)
         compare_calls();

@@ -34,15 +34,41 @@ impl Default for ReadingConfig {
 }
 
 impl ReadingConfig {
-    /// Settings for a column that is so many pixels wide, between its walls.
+    /// Settings for a column that is so many pixels wide, between its walls. A number that is up to a tenth too small
+    /// or a quarter too large does as well.
+    ///
+    /// They were measured on made pictures of columns 8 to 320 pixels wide and up to a third of the picture, with at
+    /// least 250 pixels of liquid. At least 99 % of the liquid was found, and what else was judged dark was at most 1 %
+    /// of it, where
+    ///
+    /// - the liquid is 0.4 to 0.85 times as bright as the empty column, which is 0.93 to 0.95 times as bright as the
+    ///   light beside it,
+    /// - that light is 160 or more in the middle of the picture, with noise of a standard deviation of up to 2 grey
+    ///   levels,
+    /// - and loses no more to the corners than 0.1 in a picture three columns wide, 0.15 in one of six, 0.2 in one of
+    ///   eight and 0.25 in one of twelve.
+    ///
+    /// Beyond that dark corners are taken for liquid, and weak liquid is lost. docs/SETTINGS.md has the tables. Nothing
+    /// of this is proved.
+    ///
+    /// ```
+    /// use imgproc::reading::ReadingConfig;
+    ///
+    /// let config = ReadingConfig::for_column(40);
+    /// assert_eq!(config.division.structuring_element, 61); // one and a half columns, odd
+    /// assert_eq!(config.sauvola.radius, 50); // one and a quarter
+    /// assert_eq!(config.grid.neighborhood_radius, 3); // a column, in tiles
+    /// assert_eq!((config.sauvola.k_milli, config.sauvola.dynamic_range), (130, 48));
+    /// ```
     pub fn for_column(pixels: usize) -> Self {
-        let column = pixels.clamp(1, usize::MAX / 2);
+        // No picture has a wider one, and nothing below wraps.
+        let column = pixels.clamp(2, crate::MAX_SIDE);
         let mut config = Self::default();
-        config.division.structuring_element = (column + column / 2 + 2) | 1;
-        config.grid.neighborhood_radius = column / config.grid.tile_width + 1;
-        config.sauvola.radius = column;
+        config.division.structuring_element = (column + column / 2) | 1;
+        config.grid.neighborhood_radius = column.div_ceil(config.grid.tile_width);
+        config.sauvola.radius = column + column / 4;
         config.sauvola.k_milli = 130;
-        config.sauvola.dynamic_range = 36;
+        config.sauvola.dynamic_range = 48;
         config
     }
 
