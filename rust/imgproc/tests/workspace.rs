@@ -56,3 +56,18 @@ fn a_larger_picture_is_refused() {
     let answer = workspace.reading(&[0; 72], larger, &mut [0; 72], larger);
     assert_eq!(answer, Err(Refusal::WorkspaceTooSmall));
 }
+
+#[test]
+fn a_region_is_read_by_offset_and_stride() {
+    let whole = Geometry::packed(60, 50);
+    let picture: Vec<u8> = (0..whole.area()).map(|i| if i % 60 / 8 == 4 { 70 } else { (150 + i % 11) as u8 }).collect();
+    let (x, y, region) = (20, 10, Geometry { width: 30, height: 24, stride: whole.stride });
+    let cut: Vec<u8> = (0..24).flat_map(|row| picture[(y + row) * 60 + x..][..30].to_vec()).collect();
+    let packed = Geometry::packed(30, 24);
+    let mut workspace = ReadingWorkspace::new(region, &ReadingConfig::default()).unwrap();
+    let (mut in_place, mut copied) = (vec![0; packed.area()], vec![0; packed.area()]);
+    let counts = workspace.reading(&picture[y * whole.stride + x..], region, &mut in_place, packed).unwrap();
+    assert_eq!(workspace.reading(&cut, packed, &mut copied, packed), Ok(counts));
+    assert_eq!(in_place, copied);
+    assert!(counts.dark > 0);
+}
