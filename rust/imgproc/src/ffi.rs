@@ -95,9 +95,9 @@ macro_rules! call {
     (@ $export:ident ($($done:expr,)*)) => {{
         $crate::ffi::refer_to_abi();
         // SAFETY: Every pointer comes from a slice, with that slice's own length beside it, or from a `&mut` number.
-        // So each is valid, aligned and not null, and what a `&mut` lends overlaps nothing else for as long as the call
-        // runs. An export keeps nothing. `$export` is declared above, and tools/interface holds that declaration
-        // against the header and the proved source.
+        // So each is valid, aligned and not null. What a `&mut` lends overlaps nothing else for as long as the call
+        // runs, and no caller of this macro lends one of its parameters twice. An export keeps nothing. `$export` is
+        // declared above, and tools/interface compares that declaration with the header and the proved source.
         unsafe { $crate::ffi::$export($($done),*) }
     }};
     (@ $export:ident ($($done:expr,)*) [mut $data:ident] $(, $($rest:tt)*)?) => {
