@@ -1,6 +1,4 @@
 //! Layout, pixels and rows, and rows to and from a packed plane.
-//!
-//! "Layout" in an `# Errors` section means [`LumaError`](crate::LumaError) 1, 2, 3 and 4, in this order.
 
 use crate::refusal::opened;
 use crate::{Geometry, Refusal};

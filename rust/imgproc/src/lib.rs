@@ -17,6 +17,9 @@
 //! # Ok::<(), Refusal>(())
 //! ```
 //!
+//! An `# Errors` section has the numbers of [`Refusal`] in the order in which they are tried: the first that fits is
+//! answered. "Layout" there means 1, 2, 3 and 4 of [`LumaError`], for one picture entire before the next.
+//!
 //! The C interface wants valid pointers, true lengths and no overlap between what is written and anything else. Rust's
 //! `&` and `&mut` see to all three, so no call here is unsafe.
 
