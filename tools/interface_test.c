@@ -235,9 +235,10 @@ static void compare_defaults(void) {
 
 /* The settings for a column are those of the binding's test for_column: element, neighbourhood, radius. */
 static void check_columns(void) {
-    static const size_t expected[][4] = {{0, 3, 1, 2},     {1, 3, 1, 2},      {2, 3, 1, 2},        {8, 13, 1, 10},
-                                         {16, 25, 1, 20},  {17, 25, 2, 21},   {40, 61, 3, 50},     {319, 479, 20, 398},
-                                         {320, 481, 20, 400}, {4096, 6145, 256, 5120}, {SIZE_MAX, 6145, 256, 5120}};
+    static const size_t expected[][4] = {
+        {0, 3, 1, 1},     {1, 3, 1, 1},       {2, 5, 1, 2},       {8, 17, 1, 10},         {16, 33, 1, 20},
+        {17, 35, 2, 21},  {40, 81, 3, 50},    {319, 639, 20, 398}, {320, 641, 20, 400},   {4096, 8193, 256, 5120},
+        {SIZE_MAX, 8193, 256, 5120}};
     size_t i;
     for (i = 0; i < sizeof expected / sizeof *expected; i++) {
         const struct imgproc_reading_settings s = imgproc_settings_for_column(expected[i][0]);

@@ -34,8 +34,8 @@ impl Default for ReadingConfig {
 }
 
 impl ReadingConfig {
-    /// Settings for a column that is so many pixels wide, between its walls. A number that is up to a tenth too small
-    /// or a quarter too large does as well.
+    /// Settings for a column that is so many pixels wide, between its walls. A number that is up to a twentieth too
+    /// small or a quarter too large does as well.
     ///
     /// They were measured on made pictures of columns 8 to 320 pixels wide and up to a third of the picture, with at
     /// least 250 pixels of liquid. At least 99 % of the liquid was found, and what else was judged dark was at most 1 %
@@ -55,16 +55,16 @@ impl ReadingConfig {
     /// use imgproc::reading::ReadingConfig;
     ///
     /// let config = ReadingConfig::for_column(40);
-    /// assert_eq!(config.division.structuring_element, 61); // one and a half columns, odd
+    /// assert_eq!(config.division.structuring_element, 81); // two columns, and odd
     /// assert_eq!(config.sauvola.radius, 50); // one and a quarter
     /// assert_eq!(config.grid.neighborhood_radius, 3); // a column, in tiles
     /// assert_eq!((config.sauvola.k_milli, config.sauvola.dynamic_range), (130, 48));
     /// ```
     pub fn for_column(pixels: usize) -> Self {
         // No picture has a wider one, and nothing below wraps.
-        let column = pixels.clamp(2, crate::MAX_SIDE);
+        let column = pixels.clamp(1, crate::MAX_SIDE);
         let mut config = Self::default();
-        config.division.structuring_element = (column + column / 2) | 1;
+        config.division.structuring_element = 2 * column + 1;
         config.grid.neighborhood_radius = column.div_ceil(config.grid.tile_width);
         config.sauvola.radius = column + column / 4;
         config.sauvola.k_milli = 130;

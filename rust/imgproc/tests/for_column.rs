@@ -5,17 +5,17 @@ use imgproc::reading::ReadingConfig;
 #[test]
 fn the_numbers_are_those_of_c() {
     let expected = [
-        (0, 3, 1, 2),
-        (1, 3, 1, 2),
-        (2, 3, 1, 2),
-        (8, 13, 1, 10),
-        (16, 25, 1, 20),
-        (17, 25, 2, 21),
-        (40, 61, 3, 50),
-        (319, 479, 20, 398),
-        (320, 481, 20, 400),
-        (4096, 6145, 256, 5120),
-        (usize::MAX, 6145, 256, 5120),
+        (0, 3, 1, 1),
+        (1, 3, 1, 1),
+        (2, 5, 1, 2),
+        (8, 17, 1, 10),
+        (16, 33, 1, 20),
+        (17, 35, 2, 21),
+        (40, 81, 3, 50),
+        (319, 639, 20, 398),
+        (320, 641, 20, 400),
+        (4096, 8193, 256, 5120),
+        (usize::MAX, 8193, 256, 5120),
     ];
     for (pixels, structuring_element, neighborhood_radius, radius) in expected {
         let mut config = ReadingConfig::default();

@@ -52,7 +52,7 @@ fn drawn(rng: &mut Rng) -> (Scene, usize) {
         seed: (rng.unit() * 1e9) as u64,
         ..Scene::new(column as usize, times)
     };
-    (scene, (scene.column as f64 * rng.between(0.9, 1.25)).round() as usize)
+    (scene, (scene.column as f64 * rng.between(0.95, 1.25)).round() as usize)
 }
 
 /// Reads pictures from anywhere in the range.
@@ -189,10 +189,10 @@ fn tables() {
     let empty = changes("empty", [0.85, 0.9, 0.93, 0.95, 0.97, 1.0], |scene, empty| scene.empty = empty);
     shares("The empty column, by the liquid:", &liquids, &empty, &some([8, 20, 56], 4), rule);
     println!("\nA column taken for narrower or wider than it is:\n");
-    println!("| taken for | 0.7 | 0.8 | 0.9 | 1.1 | 1.25 | 1.5 | 2 |\n|---|---|---|---|---|---|---|---|");
+    println!("| taken for | 0.7 | 0.8 | 0.9 | 0.95 | 1.1 | 1.25 | 1.5 | 2 |\n|---|---|---|---|---|---|---|---|---|");
     for (head, change) in &widths {
         print!("| {head} |");
-        for part in [0.7, 0.8, 0.9, 1.1, 1.25, 1.5, 2.0] {
+        for part in [0.7, 0.8, 0.9, 0.95, 1.1, 1.25, 1.5, 2.0] {
             let made: Vec<Scene> = some([8, 8, 8], 3).into_iter().map(change).collect();
             let taken = |scene: &Scene| ReadingConfig::for_column((scene.column as f64 * part).round() as usize);
             let good = made.iter().filter(|scene| measure(scene, &taken(scene)).good()).count();
