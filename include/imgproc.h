@@ -5,19 +5,8 @@
  * range needs stride * (height - 1) + width bytes; the last row needs no padding. Sides run from 1 to 4096.
  *
  * Every call but imgproc_root, which is never refused, answers a number: 0 when it did its work, else why it was
- * turned back. A refused call changes nothing: no lent byte, no workspace, no number behind a pointer. The first
- * reason that fits, in the order given for each call, is the one that is answered.
- *
- *    1  a side is zero
- *    2  the stride is below the width
- *    3  the range is shorter than the picture needs
- *    4  a side is above 4096
- *    5  source and destination differ in width or height
- *    6  the kernel is even or below 3
- *    7  a setting is out of range
- *    8  the range to copy to, or the workspace, is too short
- *    9  the pixel or row lies outside the picture
- *   10  a buffer of thresholds or skips is too short
+ * refused; enum imgproc_refusal below lists them. A refused call changes nothing: no lent byte, no workspace, no number
+ * behind a pointer. The first reason that fits, in the order given for each call, is the one that is answered.
  *
  * "Layout" below means 1, 2, 3 and 4, in this order. Lengths are exact: no product of stride and height wraps.
  * Where a call takes both src and dst, or builds a grid, its workspace is room to work in: what it held before does
@@ -30,6 +19,8 @@
  *  - No pointer is null, not even where the length is 0.
  *  - Nobody else writes to what is lent, or reads what is written, while a call runs.
  * Nothing is kept after a call, and no call allocates, so calls on different ranges may run at the same time.
+ *
+ * imgproc_settings.h has the calls with settings once more, with structs for the numbers that stand in a row here.
  */
 #ifndef IMGPROC_H
 #define IMGPROC_H
@@ -37,9 +28,49 @@
 #include <stddef.h>
 #include <stdint.h>
 
+#if defined(__GNUC__) && !(defined(__x86_64__) && defined(__LP64__))
+#error "the archive is for x86-64"
+#endif
+
+/* The version, and the number of the calling form, which changes with every changed declaration. */
+#define IMGPROC_VERSION "0.1.0"
+#define IMGPROC_ABI 1
+
 #ifdef __cplusplus
 extern "C" {
 #endif
+
+/* The answers of a call. */
+enum imgproc_refusal {
+    IMGPROC_ACCEPTED = 0,
+    IMGPROC_EMPTY_DIMENSIONS = 1,      /* a side is zero */
+    IMGPROC_STRIDE_TOO_SMALL = 2,      /* the stride is below the width */
+    IMGPROC_BUFFER_TOO_SMALL = 3,      /* the range is shorter than the picture needs */
+    IMGPROC_SIDE_TOO_LARGE = 4,        /* a side is above 4096 */
+    IMGPROC_DIMENSION_MISMATCH = 5,    /* source and destination differ in width or height */
+    IMGPROC_INVALID_KERNEL = 6,        /* the kernel is even or below 3 */
+    IMGPROC_INVALID_CONFIGURATION = 7, /* a setting is out of range */
+    IMGPROC_WORKSPACE_TOO_SMALL = 8,   /* the range to copy to, or the workspace, is too short */
+    IMGPROC_OUTSIDE_PICTURE = 9,       /* the pixel or row lies outside the picture */
+    IMGPROC_GRID_BUFFER_TOO_SMALL = 10 /* a buffer of thresholds or skips is too short */
+};
+
+/* The number of the archive's calling form. Each file that includes this header refers to it, so that an archive of
+   another calling form does not link: the linker misses the name. Nobody has to call it. */
+uint32_t imgproc_abi_1(void);
+#if defined(__has_attribute)
+#if __has_attribute(retain)
+#define IMGPROC_KEPT __attribute__((used, retain))
+#endif
+#endif
+#if !defined(IMGPROC_KEPT) && defined(__GNUC__)
+#define IMGPROC_KEPT __attribute__((used))
+#endif
+#ifndef IMGPROC_KEPT
+#define IMGPROC_KEPT
+#endif
+static uint32_t (*const imgproc_abi_kept)(void) IMGPROC_KEPT = imgproc_abi_1;
+#undef IMGPROC_KEPT
 
 /* Whether a range of len bytes holds the picture: 0, or layout. */
 uint32_t imgproc_validate_layout(size_t len, size_t width, size_t height, size_t stride);
@@ -171,11 +202,11 @@ uint32_t imgproc_row_all_skip(size_t width, size_t height, size_t tile_width, si
    Over the opened picture the tiles that imgproc_tile_grid_build would skip with the next eight settings are skipped,
    and every other pixel is dark or light as imgproc_sauvola_into would have it with the next five. The rows of dst get
    dark_value for a dark pixel and light_value for a light or skipped one, and no other byte of dst is written. *dark,
-   *light and *skipped are how many pixels are what, *comparisons those of samples in the closing and the opening. With
-   t the number of tiles, refused: layout of src, layout of dst, 5, then 7 for the settings of the division, 6 where
-   opening_kernel is even or below 3, 7 for the settings of the grid, method included, 7 for those of the threshold,
-   then 8 where bytes_len is below 9 * width * height + 2 * t or words_len below 2 * (width + 1) * (height + 1) + 5 * t
-   numbers. */
+   *light and *skipped receive the number of pixels of each kind, *comparisons that of the comparisons of samples in the
+   closing and the opening. With t the number of tiles, refused: layout of src, layout of dst, 5, then 7 for the
+   settings of the division, 6 where opening_kernel is even or below 3, 7 for the settings of the grid, method included,
+   7 for those of the threshold, then 8 where bytes_len is below 9 * width * height + 2 * t or words_len below
+   2 * (width + 1) * (height + 1) + 5 * t numbers. */
 uint32_t imgproc_reading(const uint8_t *src, size_t src_len, size_t src_width, size_t src_height, size_t src_stride,
                          uint8_t *dst, size_t dst_len, size_t dst_width, size_t dst_height, size_t dst_stride,
                          size_t structuring_element, uint8_t target_luma, uint8_t denominator_floor,

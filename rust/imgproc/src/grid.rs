@@ -1,15 +1,30 @@
-//! Tile thresholds and skips, and questions to them.
+//! Tile thresholds and skips, and queries to them.
 
 use crate::refusal::opened;
-use crate::{Geometry, Refusal};
+use crate::{Geometry, Refusal, SettingError};
 
 /// How a tile's threshold is found.
 #[derive(Clone, Copy, Debug, PartialEq)]
 pub enum TileThresholdMethod {
     /// Halfway between the neighbourhood's minimum and maximum.
     Midrange,
-    /// Sauvola's formula over the neighbourhood; both numbers finite, the range above 0.
-    Sauvola { k: f64, dynamic_range: f64 },
+    /// Sauvola's formula over the neighbourhood.
+    Sauvola {
+        /// Sauvola's k; finite.
+        k: f64,
+        /// The spread at which the threshold is the mean; finite and above 0.
+        dynamic_range: f64,
+    },
+}
+
+impl TileThresholdMethod {
+    /// The method's number, k and range as the exports take them.
+    pub(crate) const fn numbers(self) -> (u32, f64, f64) {
+        match self {
+            Self::Midrange => (0, 0.0, 1.0),
+            Self::Sauvola { k, dynamic_range } => (1, k, dynamic_range),
+        }
+    }
 }
 
 /// Settings of [`tile_grid_build`].
@@ -25,6 +40,7 @@ pub struct TileThresholdConfig {
     pub threshold_offset: i16,
     /// A neighbourhood with less contrast than this is skipped.
     pub contrast_floor: u8,
+    /// How a tile's threshold is found.
     pub method: TileThresholdMethod,
 }
 
@@ -41,58 +57,55 @@ impl Default for TileThresholdConfig {
     }
 }
 
+impl TileThresholdConfig {
+    /// Names the first setting that is out of range.
+    ///
+    /// # Errors
+    ///
+    /// The tile's width, then its height, then the method's k, then its range.
+    pub fn check(&self) -> Result<(), SettingError> {
+        if self.tile_width == 0 {
+            return Err(SettingError::TileWidth);
+        }
+        if self.tile_height == 0 {
+            return Err(SettingError::TileHeight);
+        }
+        if let TileThresholdMethod::Sauvola { k, dynamic_range } = self.method {
+            if !k.is_finite() {
+                return Err(SettingError::MethodK);
+            }
+            if !dynamic_range.is_finite() || dynamic_range <= 0.0 {
+                return Err(SettingError::MethodDynamicRange);
+            }
+        }
+        Ok(())
+    }
+}
+
 /// The sizes of a grid. Its thresholds and skips are slices beside it, one byte a tile, tile row by tile row.
 #[derive(Clone, Copy, Debug, PartialEq, Eq, Hash)]
 pub struct Grid {
+    /// The picture's width.
     pub width: usize,
+    /// The picture's height.
     pub height: usize,
+    /// The width of a tile; the last of a row may be narrower.
     pub tile_width: usize,
+    /// The height of a tile; the last of a column may be lower.
     pub tile_height: usize,
+    /// The tiles of a row: width / tile_width, rounded up.
     pub tiles_x: usize,
+    /// The rows of tiles: height / tile_height, rounded up.
     pub tiles_y: usize,
 }
 
-type Query = unsafe extern "C" fn(
-    width: usize,
-    height: usize,
-    tile_width: usize,
-    tile_height: usize,
-    tiles_x: usize,
-    tiles_y: usize,
-    tiles: *const u8,
-    tiles_len: usize,
-    x: usize,
-    y: usize,
-    value: *mut u8,
-) -> u32;
-
-extern "C" {
-    fn imgproc_tile_grid_build(
-        src: *const u8, src_len: usize, width: usize, height: usize, stride: usize, tile_width: usize,
-        tile_height: usize, neighborhood_radius: usize, threshold_offset: i16, contrast_floor: u8, method: u32, k: f64,
-        dynamic_range: f64, workspace: *mut u64, workspace_len: usize, thresholds: *mut u8, thresholds_len: usize,
-        skips: *mut u8, skips_len: usize, tiles_x: *mut usize, tiles_y: *mut usize,
-    ) -> u32;
-    fn imgproc_threshold_at(
-        width: usize, height: usize, tile_width: usize, tile_height: usize, tiles_x: usize, tiles_y: usize,
-        tiles: *const u8, tiles_len: usize, x: usize, y: usize, value: *mut u8,
-    ) -> u32;
-    fn imgproc_is_skip(
-        width: usize, height: usize, tile_width: usize, tile_height: usize, tiles_x: usize, tiles_y: usize,
-        tiles: *const u8, tiles_len: usize, x: usize, y: usize, value: *mut u8,
-    ) -> u32;
-    fn imgproc_row_all_skip(
-        width: usize, height: usize, tile_width: usize, tile_height: usize, tiles_x: usize, tiles_y: usize,
-        tiles: *const u8, tiles_len: usize, y: usize, value: *mut u8,
-    ) -> u32;
-}
-
 /// The calls as C sees them, with slices for pointers; the number comes back, 0 for accepted.
+#[doc(hidden)]
+#[allow(missing_docs)]
 pub mod flat {
-    use super::*;
-
-    // Why each call is sound: pointers and lengths come from Rust slices and references, so they are valid and not null,
-    // and a `&mut` overlaps nothing else.
+    use super::{Grid, TileThresholdConfig};
+    use crate::ffi::call;
+    use crate::Geometry;
 
     /// `method` is 0 for Midrange and 1 for Sauvola; any other is refused. The method in `config` is not looked at.
     #[allow(clippy::too_many_arguments)]
@@ -100,87 +113,38 @@ pub mod flat {
         src: &[u8], g: Geometry, config: &TileThresholdConfig, method: u32, k: f64, dynamic_range: f64,
         workspace: &mut [u64], thresholds: &mut [u8], skips: &mut [u8], tiles_x: &mut usize, tiles_y: &mut usize,
     ) -> u32 {
-        unsafe {
-            imgproc_tile_grid_build(
-                src.as_ptr(),
-                src.len(),
-                g.width,
-                g.height,
-                g.stride,
-                config.tile_width,
-                config.tile_height,
-                config.neighborhood_radius,
-                config.threshold_offset,
-                config.contrast_floor,
-                method,
-                k,
-                dynamic_range,
-                workspace.as_mut_ptr(),
-                workspace.len(),
-                thresholds.as_mut_ptr(),
-                thresholds.len(),
-                skips.as_mut_ptr(),
-                skips.len(),
-                tiles_x,
-                tiles_y,
-            )
-        }
+        let TileThresholdConfig { tile_width, tile_height, neighborhood_radius, .. } = *config;
+        call!(imgproc_tile_grid_build(
+            [src], <g>, tile_width, tile_height, neighborhood_radius, config.threshold_offset, config.contrast_floor,
+            method, k, dynamic_range, [mut workspace], [mut thresholds], [mut skips], tiles_x, tiles_y
+        ))
     }
 
     pub fn threshold_at(grid: Grid, thresholds: &[u8], x: usize, y: usize, value: &mut u8) -> u32 {
-        asked(imgproc_threshold_at, grid, thresholds, x, y, value)
+        call!(imgproc_threshold_at(<grid tiles>, [thresholds], x, y, value))
     }
 
     pub fn is_skip(grid: Grid, skips: &[u8], x: usize, y: usize, value: &mut u8) -> u32 {
-        asked(imgproc_is_skip, grid, skips, x, y, value)
+        call!(imgproc_is_skip(<grid tiles>, [skips], x, y, value))
     }
 
     pub fn row_all_skip(grid: Grid, skips: &[u8], y: usize, value: &mut u8) -> u32 {
-        unsafe {
-            imgproc_row_all_skip(
-                grid.width,
-                grid.height,
-                grid.tile_width,
-                grid.tile_height,
-                grid.tiles_x,
-                grid.tiles_y,
-                skips.as_ptr(),
-                skips.len(),
-                y,
-                value,
-            )
-        }
-    }
-
-    fn asked(query: Query, grid: Grid, tiles: &[u8], x: usize, y: usize, value: &mut u8) -> u32 {
-        unsafe {
-            query(
-                grid.width,
-                grid.height,
-                grid.tile_width,
-                grid.tile_height,
-                grid.tiles_x,
-                grid.tiles_y,
-                tiles.as_ptr(),
-                tiles.len(),
-                x,
-                y,
-                value,
-            )
-        }
+        call!(imgproc_row_all_skip(<grid tiles>, [skips], y, value))
     }
 }
 
 /// Fills the first bytes of `thresholds` and `skips`, one a tile, and gives the grid's sizes.
-/// The workspace needs 5 numbers a tile.
+/// Each of them needs [`tiles`] bytes, the workspace [`workspace_len`] numbers.
+///
+/// # Errors
+///
+/// Layout, 7 where [`TileThresholdConfig::check`] finds a fault, 8 where the workspace is too short, 10 where
+/// `thresholds` or `skips` is.
 pub fn tile_grid_build(
     src: &[u8], geometry: Geometry, config: &TileThresholdConfig, workspace: &mut [u64], thresholds: &mut [u8],
     skips: &mut [u8],
 ) -> Result<Grid, Refusal> {
-    let (method, k, dynamic_range) = match config.method {
-        TileThresholdMethod::Midrange => (0, 0.0, 1.0),
-        TileThresholdMethod::Sauvola { k, dynamic_range } => (1, k, dynamic_range),
-    };
+    let (method, k, dynamic_range) = config.method.numbers();
     let (mut tiles_x, mut tiles_y) = (0, 0);
     opened(flat::tile_grid_build(
         src,
@@ -207,14 +171,28 @@ pub const fn tiles(width: usize, height: usize, tile_width: usize, tile_height: 
     width.div_ceil(tile_width).saturating_mul(height.div_ceil(tile_height))
 }
 
+/// The u64s of workspace that a grid needs: five a tile.
+pub const fn workspace_len(width: usize, height: usize, config: &TileThresholdConfig) -> usize {
+    tiles(width, height, config.tile_width, config.tile_height).saturating_mul(5)
+}
+
 /// The threshold of the tile that holds pixel (x, y).
+///
+/// # Errors
+///
+/// 7 where a side is not in 1..=[`MAX_SIDE`](crate::MAX_SIDE), a tile side is 0 or a tile count is not the side over
+/// the tile side, rounded up; 10 where `thresholds` is shorter than the grid has tiles; 9 outside the picture.
 pub fn threshold_at(grid: Grid, thresholds: &[u8], x: usize, y: usize) -> Result<u8, Refusal> {
     let mut value = 0;
     opened(flat::threshold_at(grid, thresholds, x, y, &mut value))?;
     Ok(value)
 }
 
-/// Whether the tile that holds pixel (x, y) is skipped.
+/// Whether the tile that holds pixel (x, y) is skipped: its byte is not 0.
+///
+/// # Errors
+///
+/// As [`threshold_at`].
 pub fn is_skip(grid: Grid, skips: &[u8], x: usize, y: usize) -> Result<bool, Refusal> {
     let mut value = 0;
     opened(flat::is_skip(grid, skips, x, y, &mut value))?;
@@ -222,6 +200,10 @@ pub fn is_skip(grid: Grid, skips: &[u8], x: usize, y: usize) -> Result<bool, Ref
 }
 
 /// Whether every tile in the tile row that holds row y is skipped.
+///
+/// # Errors
+///
+/// As [`threshold_at`].
 pub fn row_all_skip(grid: Grid, skips: &[u8], y: usize) -> Result<bool, Refusal> {
     let mut value = 0;
     opened(flat::row_all_skip(grid, skips, y, &mut value))?;

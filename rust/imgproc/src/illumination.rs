@@ -1,12 +1,13 @@
 //! Division by the background.
 
 use crate::refusal::opened;
-use crate::{Geometry, Refusal};
+use crate::{Geometry, Refusal, SettingError};
 
 /// Settings of [`background_divide_into`].
 #[derive(Clone, Copy, Debug, PartialEq, Eq)]
 pub struct BackgroundDivideConfig {
-    /// Kernel of the closing that gives the background; odd and at least 3.
+    /// Kernel of the closing that gives the background; odd and at least 3. What is darker than its surroundings and
+    /// narrower than this is divided by those surroundings; what is wider is taken for background itself.
     pub structuring_element: usize,
     /// What a pixel as bright as its background becomes.
     pub target_luma: u8,
@@ -20,49 +21,50 @@ impl Default for BackgroundDivideConfig {
     }
 }
 
-extern "C" {
-    fn imgproc_background_divide_into(
-        src: *const u8, src_len: usize, src_width: usize, src_height: usize, src_stride: usize, dst: *mut u8,
-        dst_len: usize, dst_width: usize, dst_height: usize, dst_stride: usize, structuring_element: usize,
-        target_luma: u8, denominator_floor: u8, workspace: *mut u8, workspace_len: usize, comparisons: *mut u64,
-    ) -> u32;
+impl BackgroundDivideConfig {
+    /// Names the first setting that is out of range.
+    ///
+    /// # Errors
+    ///
+    /// The element, then the floor.
+    pub const fn check(&self) -> Result<(), SettingError> {
+        if self.structuring_element < 3 || self.structuring_element % 2 == 0 {
+            return Err(SettingError::StructuringElement);
+        }
+        if self.denominator_floor == 0 {
+            return Err(SettingError::DenominatorFloor);
+        }
+        Ok(())
+    }
 }
 
 /// The call as C sees it, with slices for pointers; the number comes back, 0 for accepted.
+#[doc(hidden)]
+#[allow(missing_docs)]
 pub mod flat {
-    use super::*;
+    use super::BackgroundDivideConfig;
+    use crate::ffi::call;
+    use crate::Geometry;
 
-    #[allow(clippy::too_many_arguments)]
     pub fn background_divide_into(
         src: &[u8], s: Geometry, dst: &mut [u8], d: Geometry, config: &BackgroundDivideConfig, workspace: &mut [u8],
         comparisons: &mut u64,
     ) -> u32 {
-        // Sound because pointers and lengths come from slices and references, and a `&mut` overlaps nothing else.
-        unsafe {
-            imgproc_background_divide_into(
-                src.as_ptr(),
-                src.len(),
-                s.width,
-                s.height,
-                s.stride,
-                dst.as_mut_ptr(),
-                dst.len(),
-                d.width,
-                d.height,
-                d.stride,
-                config.structuring_element,
-                config.target_luma,
-                config.denominator_floor,
-                workspace.as_mut_ptr(),
-                workspace.len(),
-                comparisons,
-            )
-        }
+        let BackgroundDivideConfig { structuring_element, target_luma, denominator_floor } = *config;
+        call!(imgproc_background_divide_into(
+            [src], <s>, [mut dst], <d>, structuring_element, target_luma, denominator_floor, [mut workspace],
+            comparisons
+        ))
     }
 }
 
 /// Divides each pixel by its background, and gives the number of comparisons of samples.
 /// The workspace needs [`workspace_len`] bytes.
+///
+/// # Errors
+///
+/// Layout of the source, layout of the destination, 5 where they differ in width or height, 7 where
+/// [`BackgroundDivideConfig::check`] finds a fault, 8 where the workspace is too short.
 pub fn background_divide_into(
     src: &[u8], src_geometry: Geometry, dst: &mut [u8], dst_geometry: Geometry, config: &BackgroundDivideConfig,
     workspace: &mut [u8],

@@ -2,7 +2,7 @@
 //!
 //! A picture is a slice of bytes and a [`Geometry`]: pixel (x, y) is the byte at y * stride + x. Every call takes
 //! slices and gives a `Result`; a refused call leaves every slice as it was. Workspaces are lent: each module has a
-//! function that tells the length that is needed.
+//! function that tells the length that is needed, and [`reading::ReadingWorkspace`] owns those of a reading.
 //!
 //! ```
 //! use imgproc::{image, Geometry, LumaError, Refusal};
@@ -17,12 +17,21 @@
 //! # Ok::<(), Refusal>(())
 //! ```
 //!
+//! An `# Errors` section has the numbers of [`Refusal`] in the order in which they are tried: the first that fits is
+//! answered. "Layout" there means 1, 2, 3 and 4 of [`LumaError`], for one picture entire before the next.
+//!
 //! The C interface wants valid pointers, true lengths and no overlap between what is written and anything else. Rust's
-//! `&` and `&mut` see to all three, so no call here is unsafe. In each module `flat` has the same calls as C sees them,
-//! with slices for pointers: the refusal's number comes back, and values go out through references.
+//! `&` and `&mut` see to all three, so no call here is unsafe.
 
+#![deny(missing_docs, missing_debug_implementations, unsafe_op_in_unsafe_fn)]
+#![deny(clippy::undocumented_unsafe_blocks, clippy::missing_errors_doc)]
+
+#[cfg(not(all(target_arch = "x86_64", target_pointer_width = "64")))]
+compile_error!("the archive of imgproc_c is for x86-64");
+
+mod ffi;
 mod refusal;
-pub use refusal::{LumaError, Refusal};
+pub use refusal::{LumaError, Refusal, SettingError};
 
 pub mod grid;
 pub mod illumination;
@@ -38,8 +47,11 @@ pub const MAX_SIDE: usize = 4096;
 /// The sides of a picture and the distance from one row's first byte to the next one's.
 #[derive(Clone, Copy, Debug, PartialEq, Eq, Hash)]
 pub struct Geometry {
+    /// The pixels of a row.
     pub width: usize,
+    /// The number of rows.
     pub height: usize,
+    /// The bytes from one row's first pixel to the next row's.
     pub stride: usize,
 }
 

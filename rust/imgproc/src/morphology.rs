@@ -3,49 +3,31 @@
 use crate::refusal::opened;
 use crate::{Geometry, Refusal};
 
-type Sweep = unsafe extern "C" fn(
-    src: *const u8,
-    src_len: usize,
-    src_width: usize,
-    src_height: usize,
-    src_stride: usize,
-    dst: *mut u8,
-    dst_len: usize,
-    dst_width: usize,
-    dst_height: usize,
-    dst_stride: usize,
-    kernel_size: usize,
-    workspace: *mut u8,
-    workspace_len: usize,
-    comparisons: *mut u64,
-) -> u32;
-
 macro_rules! sweeps {
-    ($($call:ident $symbol:ident $what:literal)*) => {
-        extern "C" {
-            $(fn $symbol(
-                src: *const u8, src_len: usize, src_width: usize, src_height: usize, src_stride: usize,
-                dst: *mut u8, dst_len: usize, dst_width: usize, dst_height: usize, dst_stride: usize,
-                kernel_size: usize, workspace: *mut u8, workspace_len: usize, comparisons: *mut u64,
-            ) -> u32;)*
-        }
-
+    ($($call:ident $export:ident $what:literal)*) => {
         /// The calls as C sees them, with slices for pointers; the number comes back, 0 for accepted.
+        #[doc(hidden)]
+        #[allow(missing_docs)]
         pub mod flat {
-            use super::*;
+            use crate::ffi::call;
+            use crate::Geometry;
 
-            $(#[allow(clippy::too_many_arguments)]
-            pub fn $call(
-                src: &[u8], src_geometry: Geometry, dst: &mut [u8], dst_geometry: Geometry,
-                kernel_size: usize, workspace: &mut [u8], comparisons: &mut u64,
+            $(pub fn $call(
+                src: &[u8], s: Geometry, dst: &mut [u8], d: Geometry, kernel_size: usize, workspace: &mut [u8],
+                comparisons: &mut u64,
             ) -> u32 {
-                swept($symbol, src, src_geometry, dst, dst_geometry, kernel_size, workspace, comparisons)
+                call!($export([src], <s>, [mut dst], <d>, kernel_size, [mut workspace], comparisons))
             })*
         }
 
         $(#[doc = $what]
         ///
         /// Gives the number of comparisons of samples. The workspace needs [`workspace_len`] bytes.
+        ///
+        /// # Errors
+        ///
+        /// Layout of the source, layout of the destination, 5 where they differ in width or height, 6 where the kernel
+        /// is even or below 3, 8 where the workspace is too short.
         pub fn $call(
             src: &[u8], src_geometry: Geometry, dst: &mut [u8], dst_geometry: Geometry,
             kernel_size: usize, workspace: &mut [u8],
@@ -67,30 +49,4 @@ sweeps! {
 /// The bytes of workspace that a picture needs.
 pub const fn workspace_len(width: usize, height: usize) -> usize {
     Geometry::packed(width, height).area().saturating_mul(6)
-}
-
-#[allow(clippy::too_many_arguments)]
-fn swept(
-    sweep: Sweep, src: &[u8], s: Geometry, dst: &mut [u8], d: Geometry, kernel_size: usize, workspace: &mut [u8],
-    comparisons: &mut u64,
-) -> u32 {
-    // Sound because pointers and lengths come from slices and references, and a `&mut` overlaps nothing else.
-    unsafe {
-        sweep(
-            src.as_ptr(),
-            src.len(),
-            s.width,
-            s.height,
-            s.stride,
-            dst.as_mut_ptr(),
-            dst.len(),
-            d.width,
-            d.height,
-            d.stride,
-            kernel_size,
-            workspace.as_mut_ptr(),
-            workspace.len(),
-            comparisons,
-        )
-    }
 }

@@ -1,22 +1,27 @@
 //! The reading: a picture flattened and opened, its low-contrast tiles skipped, every other pixel judged.
 
-use crate::grid::{tiles, TileThresholdConfig, TileThresholdMethod};
+use crate::grid::{self, tiles, TileThresholdConfig};
 use crate::illumination::BackgroundDivideConfig;
 use crate::refusal::opened;
-use crate::sauvola::SauvolaConfig;
-use crate::{Geometry, Refusal};
+use crate::sauvola::{self, SauvolaConfig};
+use crate::{image, Geometry, Refusal, SettingError};
+use std::fmt;
 
 /// Settings of [`reading`].
 #[derive(Clone, Copy, Debug, PartialEq)]
 pub struct ReadingConfig {
+    /// Of the division by the background.
     pub division: BackgroundDivideConfig,
     /// Kernel of the opening; odd and at least 3.
     pub opening_kernel: usize,
     /// Of the grid only the skips count.
     pub grid: TileThresholdConfig,
+    /// Of the threshold, and the bytes that are written.
     pub sauvola: SauvolaConfig,
 }
 
+/// The settings of the published Rust. They find a dark column of about 8 pixels; for a wider one see
+/// [`ReadingConfig::for_column`].
 impl Default for ReadingConfig {
     fn default() -> Self {
         Self {
@@ -28,31 +33,92 @@ impl Default for ReadingConfig {
     }
 }
 
+impl ReadingConfig {
+    /// Settings for a column that is so many pixels wide, between its walls. A number that is up to a twentieth too
+    /// small or a quarter too large does as well.
+    ///
+    /// They were measured on made pictures of columns 8 to 320 pixels wide and up to a third of the picture, with at
+    /// least 250 pixels of liquid. At least 99 % of the liquid was found, and what else was judged dark was at most 1 %
+    /// of it, where
+    ///
+    /// - the liquid is 0.4 to 0.85 times as bright as the empty column, which is 0.93 to 0.95 times as bright as the
+    ///   light beside it,
+    /// - that light is 160 or more in the middle of the picture, with noise of a standard deviation of up to 2 grey
+    ///   levels,
+    /// - and loses no more to the corners than 0.1 in a picture three columns wide, 0.15 in one of six, 0.2 in one of
+    ///   eight and 0.25 in one of twelve.
+    ///
+    /// Beyond that dark corners are taken for liquid, and weak liquid is lost. docs/SETTINGS.md has the tables. Nothing
+    /// of this is proved.
+    ///
+    /// ```
+    /// use imgproc::reading::ReadingConfig;
+    ///
+    /// let config = ReadingConfig::for_column(40);
+    /// assert_eq!(config.division.structuring_element, 81); // two columns, and odd
+    /// assert_eq!(config.sauvola.radius, 50); // one and a quarter
+    /// assert_eq!(config.grid.neighborhood_radius, 3); // a column, in tiles
+    /// assert_eq!((config.sauvola.k_milli, config.sauvola.dynamic_range), (130, 48));
+    /// ```
+    pub fn for_column(pixels: usize) -> Self {
+        // No picture has a wider one, and nothing below wraps.
+        let column = pixels.clamp(1, crate::MAX_SIDE);
+        let mut config = Self::default();
+        config.division.structuring_element = 2 * column + 1;
+        config.grid.neighborhood_radius = column.div_ceil(config.grid.tile_width);
+        config.sauvola.radius = column + column / 4;
+        config.sauvola.k_milli = 130;
+        config.sauvola.dynamic_range = 48;
+        config
+    }
+
+    /// Names the first setting that is out of range, in the order in which a reading is refused for it.
+    ///
+    /// # Errors
+    ///
+    /// The settings of the division, the opening's kernel, the settings of the grid, those of the threshold.
+    ///
+    /// ```
+    /// use imgproc::reading::ReadingConfig;
+    /// use imgproc::SettingError;
+    ///
+    /// let mut config = ReadingConfig::default();
+    /// config.sauvola.radius = 0;
+    /// let error = config.check().unwrap_err();
+    /// assert_eq!(error, SettingError::Radius);
+    /// assert_eq!(error.to_string(), "sauvola.radius is 0");
+    /// assert_eq!(error.refusal().number(), 7);
+    /// ```
+    pub fn check(&self) -> Result<(), SettingError> {
+        self.division.check()?;
+        if self.opening_kernel < 3 || self.opening_kernel % 2 == 0 {
+            return Err(SettingError::OpeningKernel);
+        }
+        self.grid.check()?;
+        self.sauvola.check()
+    }
+}
+
 /// What a reading counts. Dark, light and skipped add up to the number of pixels.
 #[derive(Clone, Copy, Debug, Default, PartialEq, Eq)]
 pub struct ReadingCounts {
+    /// The pixels judged dark.
     pub dark: u64,
+    /// The pixels judged light.
     pub light: u64,
+    /// The pixels of tiles without contrast, which are not judged.
     pub skipped: u64,
     /// Comparisons of samples in the closing and the opening.
     pub comparisons: u64,
 }
 
-extern "C" {
-    fn imgproc_reading(
-        src: *const u8, src_len: usize, src_width: usize, src_height: usize, src_stride: usize, dst: *mut u8,
-        dst_len: usize, dst_width: usize, dst_height: usize, dst_stride: usize, structuring_element: usize,
-        target_luma: u8, denominator_floor: u8, opening_kernel: usize, tile_width: usize, tile_height: usize,
-        neighborhood_radius: usize, threshold_offset: i16, contrast_floor: u8, method: u32, k: f64, dynamic_range: f64,
-        radius: usize, k_milli: u32, sauvola_dynamic_range: u32, dark_value: u8, light_value: u8, bytes: *mut u8,
-        bytes_len: usize, words: *mut u64, words_len: usize, dark: *mut u64, light: *mut u64, skipped: *mut u64,
-        comparisons: *mut u64,
-    ) -> u32;
-}
-
 /// The call as C sees it, with slices for pointers; the number comes back, 0 for accepted.
+#[doc(hidden)]
+#[allow(missing_docs)]
 pub mod flat {
-    use super::*;
+    use super::{ReadingConfig, ReadingCounts};
+    use crate::ffi::call;
+    use crate::Geometry;
 
     /// `method` is 0 for Midrange and 1 for Sauvola; any other is refused. The method in `config` is not looked at.
     #[allow(clippy::too_many_arguments)]
@@ -60,59 +126,53 @@ pub mod flat {
         src: &[u8], s: Geometry, dst: &mut [u8], d: Geometry, config: &ReadingConfig, method: u32, k: f64,
         dynamic_range: f64, bytes: &mut [u8], words: &mut [u64], counts: &mut ReadingCounts,
     ) -> u32 {
-        // Sound because pointers and lengths come from slices and references, and a `&mut` overlaps nothing else.
-        unsafe {
-            imgproc_reading(
-                src.as_ptr(),
-                src.len(),
-                s.width,
-                s.height,
-                s.stride,
-                dst.as_mut_ptr(),
-                dst.len(),
-                d.width,
-                d.height,
-                d.stride,
-                config.division.structuring_element,
-                config.division.target_luma,
-                config.division.denominator_floor,
-                config.opening_kernel,
-                config.grid.tile_width,
-                config.grid.tile_height,
-                config.grid.neighborhood_radius,
-                config.grid.threshold_offset,
-                config.grid.contrast_floor,
-                method,
-                k,
-                dynamic_range,
-                config.sauvola.radius,
-                config.sauvola.k_milli,
-                config.sauvola.dynamic_range,
-                config.sauvola.dark_value,
-                config.sauvola.light_value,
-                bytes.as_mut_ptr(),
-                bytes.len(),
-                words.as_mut_ptr(),
-                words.len(),
-                &mut counts.dark,
-                &mut counts.light,
-                &mut counts.skipped,
-                &mut counts.comparisons,
-            )
-        }
+        let ReadingConfig { division, opening_kernel, grid, sauvola } = *config;
+        call!(imgproc_reading(
+            [src], <s>, [mut dst], <d>,
+            division.structuring_element, division.target_luma, division.denominator_floor,
+            opening_kernel,
+            grid.tile_width, grid.tile_height, grid.neighborhood_radius, grid.threshold_offset, grid.contrast_floor,
+            method, k, dynamic_range,
+            sauvola.radius, sauvola.k_milli, sauvola.dynamic_range, sauvola.dark_value, sauvola.light_value,
+            [mut bytes], [mut words],
+            &mut counts.dark, &mut counts.light, &mut counts.skipped, &mut counts.comparisons
+        ))
     }
 }
 
 /// Judges every pixel and writes the rows of `dst`: `dark_value` for a dark one, `light_value` for a light or skipped
-/// one. The workspaces need [`bytes_len`] bytes and [`words_len`] numbers.
+/// one. The workspaces need [`bytes_len`] bytes and [`words_len`] numbers; [`ReadingWorkspace`] owns them.
+///
+/// ```
+/// use imgproc::reading::{bytes_len, reading, words_len, ReadingConfig};
+/// use imgproc::Geometry;
+///
+/// // A dark column, 4 pixels wide and 20 high, in a light picture of 24 × 30.
+/// let geometry = Geometry::packed(24, 30);
+/// let mut picture = vec![200; geometry.area()];
+/// for y in 10..30 {
+///     picture[y * 24 + 10..y * 24 + 14].fill(80);
+/// }
+/// let config = ReadingConfig::default();
+/// let mut marked = vec![0; geometry.area()];
+/// let mut bytes = vec![0; bytes_len(24, 30, &config.grid)];
+/// let mut words = vec![0; words_len(24, 30, &config.grid)];
+/// let counts = reading(&picture, geometry, &mut marked, geometry, &config, &mut bytes, &mut words)?;
+/// assert_eq!((counts.dark, counts.light, counts.skipped), (80, 640, 0));
+/// assert_eq!(marked[29 * 24 + 10], config.sauvola.dark_value);
+/// # Ok::<(), imgproc::Refusal>(())
+/// ```
+///
+/// # Errors
+///
+/// Layout of the source, layout of the destination, 5 where they differ in width or height, then what
+/// [`ReadingConfig::check`] finds first (7 for the division, 6 for the opening's kernel, 7 for the grid, 7 for the
+/// threshold), then 8 where a workspace is too short.
 pub fn reading(
     src: &[u8], src_geometry: Geometry, dst: &mut [u8], dst_geometry: Geometry, config: &ReadingConfig,
     bytes: &mut [u8], words: &mut [u64],
 ) -> Result<ReadingCounts, Refusal> {
-    let (method, k, dynamic_range) = match config.grid.method {
-        TileThresholdMethod::Midrange => (0, 0.0, 1.0),
-        TileThresholdMethod::Sauvola { k, dynamic_range } => (1, k, dynamic_range),
-    };
+    let (method, k, dynamic_range) = config.grid.method.numbers();
     let mut counts = ReadingCounts::default();
     opened(flat::reading(
         src,
@@ -130,6 +190,77 @@ pub fn reading(
     Ok(counts)
 }
 
+/// Settings, and workspaces long enough to read pictures of one size with them.
+///
+/// ```
+/// use imgproc::reading::{ReadingConfig, ReadingWorkspace};
+/// use imgproc::{Geometry, LumaError, Refusal};
+///
+/// let geometry = Geometry::packed(24, 30);
+/// let mut workspace = ReadingWorkspace::new(geometry, &ReadingConfig::default())?;
+/// let picture = vec![200; geometry.area()];
+/// let mut marked = vec![0; geometry.area()];
+/// let counts = workspace.reading(&picture, geometry, &mut marked, geometry)?;
+/// assert_eq!(counts.skipped, 720); // No contrast.
+///
+/// let vast = Geometry::packed(usize::MAX, usize::MAX);
+/// let refusal = ReadingWorkspace::new(vast, &ReadingConfig::default()).unwrap_err();
+/// assert_eq!(refusal, Refusal::Image(LumaError::BufferTooSmall));
+/// # Ok::<(), Refusal>(())
+/// ```
+#[derive(Clone)]
+pub struct ReadingWorkspace {
+    config: ReadingConfig,
+    bytes: Vec<u8>,
+    words: Vec<u64>,
+}
+
+impl ReadingWorkspace {
+    /// Checks the geometry and the settings, then allocates: for a picture without padding about 25 bytes a pixel with
+    /// the default tiles. At the largest sides, 4096, that is some 420 MB.
+    ///
+    /// # Errors
+    ///
+    /// The layout's 1 and 2, 3 where no slice can be that long, and 4; then what [`ReadingConfig::check`] finds first.
+    pub fn new(geometry: Geometry, config: &ReadingConfig) -> Result<Self, Refusal> {
+        image::validate_layout(usize::MAX, geometry)?;
+        config.check()?;
+        let Geometry { width, height, .. } = geometry;
+        let bytes = vec![0; bytes_len(width, height, &config.grid)];
+        let words = vec![0; words_len(width, height, &config.grid)];
+        Ok(Self { config: *config, bytes, words })
+    }
+
+    /// The settings.
+    pub const fn config(&self) -> &ReadingConfig {
+        &self.config
+    }
+
+    /// Reads a picture, as [`reading`] does. Strides may differ from each other and from the one that the workspace was
+    /// made for.
+    ///
+    /// # Errors
+    ///
+    /// As [`reading`]; the settings are known to be good, and 8 means a picture larger than the workspace is made for.
+    pub fn reading(
+        &mut self, src: &[u8], src_geometry: Geometry, dst: &mut [u8], dst_geometry: Geometry,
+    ) -> Result<ReadingCounts, Refusal> {
+        reading(src, src_geometry, dst, dst_geometry, &self.config, &mut self.bytes, &mut self.words)
+    }
+}
+
+/// The lengths stand for the workspaces.
+impl fmt::Debug for ReadingWorkspace {
+    fn fmt(&self, f: &mut fmt::Formatter<'_>) -> fmt::Result {
+        let Self { config, bytes, words } = self;
+        f.debug_struct("ReadingWorkspace")
+            .field("config", config)
+            .field("bytes", &bytes.len())
+            .field("words", &words.len())
+            .finish()
+    }
+}
+
 /// The bytes of workspace that a picture needs; settings that are refused need any number.
 pub const fn bytes_len(width: usize, height: usize, grid: &TileThresholdConfig) -> usize {
     let marks = tiles(width, height, grid.tile_width, grid.tile_height).saturating_mul(2);
@@ -138,7 +269,5 @@ pub const fn bytes_len(width: usize, height: usize, grid: &TileThresholdConfig) 
 
 /// The numbers of workspace that a picture needs; settings that are refused need any number.
 pub const fn words_len(width: usize, height: usize, grid: &TileThresholdConfig) -> usize {
-    let sums = tiles(width, height, grid.tile_width, grid.tile_height).saturating_mul(5);
-    let table = width.saturating_add(1).saturating_mul(height.saturating_add(1));
-    table.saturating_mul(2).saturating_add(sums)
+    sauvola::workspace_len(width, height).saturating_add(grid::workspace_len(width, height, grid))
 }

@@ -1,11 +1,6 @@
 //! The square root of an f64.
 
-extern "C" {
-    fn imgproc_root(x: f64) -> f64;
-}
-
-/// The correctly rounded square root of a finite number that is not below zero.
+/// The correctly rounded square root; of -0.0 it is -0.0, of a NaN and of a number below zero a NaN.
 pub fn root(x: f64) -> f64 {
-    // Sound because nothing is lent.
-    unsafe { imgproc_root(x) }
+    crate::ffi::call!(imgproc_root(x))
 }

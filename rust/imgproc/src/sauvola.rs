@@ -1,7 +1,7 @@
 //! Sauvola's threshold by whole numbers.
 
 use crate::refusal::opened;
-use crate::{Geometry, Refusal};
+use crate::{Geometry, Refusal, SettingError};
 
 /// Settings of [`sauvola_into`].
 #[derive(Clone, Copy, Debug, PartialEq, Eq)]
@@ -10,7 +10,7 @@ pub struct SauvolaConfig {
     pub radius: usize,
     /// Sauvola's k in thousandths, at most 1000.
     pub k_milli: u32,
-    /// The spread that counts as full contrast; not 0.
+    /// The spread at which the threshold is the window's mean; not 0.
     pub dynamic_range: u32,
     /// Written for a pixel at or below its threshold.
     pub dark_value: u8,
@@ -24,47 +24,50 @@ impl Default for SauvolaConfig {
     }
 }
 
-extern "C" {
-    fn imgproc_sauvola_into(
-        src: *const u8, src_len: usize, src_width: usize, src_height: usize, src_stride: usize, dst: *mut u8,
-        dst_len: usize, dst_width: usize, dst_height: usize, dst_stride: usize, radius: usize, k_milli: u32,
-        dynamic_range: u32, dark_value: u8, light_value: u8, workspace: *mut u64, workspace_len: usize,
-    ) -> u32;
+impl SauvolaConfig {
+    /// Names the first setting that is out of range.
+    ///
+    /// # Errors
+    ///
+    /// The radius, then k_milli, then the range.
+    pub const fn check(&self) -> Result<(), SettingError> {
+        if self.radius == 0 {
+            return Err(SettingError::Radius);
+        }
+        if self.k_milli > 1000 {
+            return Err(SettingError::KMilli);
+        }
+        if self.dynamic_range == 0 {
+            return Err(SettingError::DynamicRange);
+        }
+        Ok(())
+    }
 }
 
 /// The call as C sees it, with slices for pointers; the number comes back, 0 for accepted.
+#[doc(hidden)]
+#[allow(missing_docs)]
 pub mod flat {
-    use super::*;
+    use super::SauvolaConfig;
+    use crate::ffi::call;
+    use crate::Geometry;
 
     pub fn sauvola_into(
         src: &[u8], s: Geometry, dst: &mut [u8], d: Geometry, config: &SauvolaConfig, workspace: &mut [u64],
     ) -> u32 {
-        // Sound because pointers and lengths come from slices, and a `&mut` overlaps nothing else.
-        unsafe {
-            imgproc_sauvola_into(
-                src.as_ptr(),
-                src.len(),
-                s.width,
-                s.height,
-                s.stride,
-                dst.as_mut_ptr(),
-                dst.len(),
-                d.width,
-                d.height,
-                d.stride,
-                config.radius,
-                config.k_milli,
-                config.dynamic_range,
-                config.dark_value,
-                config.light_value,
-                workspace.as_mut_ptr(),
-                workspace.len(),
-            )
-        }
+        let SauvolaConfig { radius, k_milli, dynamic_range, dark_value, light_value } = *config;
+        call!(imgproc_sauvola_into(
+            [src], <s>, [mut dst], <d>, radius, k_milli, dynamic_range, dark_value, light_value, [mut workspace]
+        ))
     }
 }
 
 /// Writes the dark or the light value for each pixel. The workspace needs [`workspace_len`] numbers.
+///
+/// # Errors
+///
+/// Layout of the source, layout of the destination, 5 where they differ in width or height, 7 where
+/// [`SauvolaConfig::check`] finds a fault, 8 where the workspace is too short.
 pub fn sauvola_into(
     src: &[u8], src_geometry: Geometry, dst: &mut [u8], dst_geometry: Geometry, config: &SauvolaConfig,
     workspace: &mut [u64],

@@ -1,0 +1,231 @@
+//! Makes pictures of columns, reads them, and prints how much of the liquid is found and how much else is taken for it,
+//! as the tables of docs/SETTINGS.md. `settings short` reads few pictures, all in the range that the page promises, and
+//! fails where one is read badly.
+
+mod measure;
+mod rng;
+mod scene;
+
+use imgproc::reading::ReadingConfig;
+use measure::{measure, Score};
+use rng::Rng;
+use scene::Scene;
+use std::process::exit;
+
+const LIQUIDS: [f64; 5] = [0.4, 0.55, 0.7, 0.8, 0.85];
+const LEVELS: [f64; 3] = [0.2, 0.5, 0.8];
+/// How many columns wide a picture of the range is, and the largest loss of light to its corners.
+const PICTURES: [(usize, f64); 4] = [(3, 0.1), (6, 0.15), (8, 0.2), (12, 0.25)];
+/// The largest noise of the range, in grey levels.
+const NOISE: f64 = 2.0;
+
+/// The pictures of the range for one column and one liquid.
+fn range(column: usize, liquid: f64) -> Vec<Scene> {
+    let mut scenes = Vec::new();
+    for (times, falloff) in PICTURES {
+        for level in LEVELS {
+            for noise in [0.0, NOISE] {
+                let seed = (1000 * column + scenes.len()) as u64;
+                scenes.push(Scene { liquid, level, noise, falloff, seed, ..Scene::new(column, times) });
+            }
+        }
+    }
+    // A wider picture takes long to make and to read.
+    scenes.retain(|scene| scene.width <= 2000);
+    scenes
+}
+
+/// A picture from anywhere in the range, and the width that its column is taken for.
+fn drawn(rng: &mut Rng) -> (Scene, usize) {
+    let column = 8.0 * (320.0f64 / 8.0).powf(rng.unit());
+    let most = PICTURES.iter().take_while(|(times, _)| (column as usize) * times <= 2000).count();
+    let (times, falloff) = PICTURES[((most as f64) * rng.unit()) as usize];
+    let liquid = rng.between(0.4, 0.85);
+    let weak = liquid > 0.8;
+    let scene = Scene {
+        light: rng.between(if weak { 160.0 } else { 80.0 }, 240.0),
+        empty: rng.between(0.93, if weak { 0.95 } else { 1.0 }),
+        liquid,
+        level: rng.between(0.2, 0.8),
+        noise: rng.between(0.0, NOISE),
+        falloff: rng.between(0.0, falloff),
+        seed: (rng.unit() * 1e9) as u64,
+        ..Scene::new(column as usize, times)
+    };
+    (scene, (scene.column as f64 * rng.between(0.95, 1.25)).round() as usize)
+}
+
+/// Reads pictures from anywhere in the range.
+fn at_random(count: usize) {
+    let mut rng = Rng::new(7);
+    let (mut good, mut worst) = (0, Score::BEST);
+    for _ in 0..count {
+        let (scene, taken) = drawn(&mut rng);
+        let score = measure(&scene, &ReadingConfig::for_column(taken));
+        good += usize::from(score.good());
+        worst = worst.worse(score);
+    }
+    let (found, wrong) = (100.0 * worst.found, 100.0 * worst.wrong);
+    println!(
+        "\nDrawn from the range: {good} of {count} are read well; the worst {found:.1} found and {wrong:.1} wrong."
+    );
+}
+
+fn worst(scenes: &[Scene], config: &ReadingConfig) -> Score {
+    scenes.iter().map(|scene| measure(scene, config)).fold(Score::BEST, Score::worse)
+}
+
+/// A column of a table: the heading, and what its pictures change.
+type Change<'a> = (String, Box<dyn Fn(Scene) -> Scene + 'a>);
+
+/// One row a value, one column a change: the share of pictures that are read well.
+fn shares(
+    title: &str, rows: &[Change<'_>], columns: &[Change<'_>], scenes: &[Scene], rule: fn(&Scene) -> ReadingConfig,
+) {
+    println!("\n{title}\n");
+    let heads: Vec<&str> = columns.iter().map(|(head, _)| head.as_str()).collect();
+    println!("| | {} |\n|---|{}", heads.join(" | "), "---|".repeat(columns.len()));
+    for (head, row) in rows {
+        print!("| {head} |");
+        for (_, column) in columns {
+            let made: Vec<Scene> = scenes.iter().map(|&scene| column(row(scene))).collect();
+            let good = made.iter().filter(|scene| measure(scene, &rule(scene)).good()).count();
+            print!(" {} |", 100 * good / made.len());
+        }
+        println!();
+    }
+}
+
+/// One row a width of the column, one column a liquid: the least found and the most wrong, in per cent.
+fn by_width(title: &str, columns: &[usize], rule: fn(&Scene) -> ReadingConfig) {
+    println!("\n{title}\n");
+    let heads: Vec<String> = LIQUIDS.iter().map(|liquid| format!("liquid {liquid}")).collect();
+    println!("| column | {} |\n|---|{}", heads.join(" | "), "---|".repeat(LIQUIDS.len()));
+    for &column in columns {
+        print!("| {column} |");
+        for liquid in LIQUIDS {
+            let scenes = range(column, liquid);
+            let score = worst(&scenes, &rule(&scenes[0]));
+            print!(" {:.1} / {:.1} |", 100.0 * score.found, 100.0 * score.wrong);
+        }
+        println!();
+    }
+}
+
+/// The most that is judged dark of pictures of the range whose column is empty, in per cent of the column.
+fn empty_columns() {
+    let mut most = 0.0f64;
+    for column in [8, 20, 56, 112] {
+        for scene in range(column, 1.0) {
+            let scene = Scene { level: 0.0, ..scene };
+            let dark = measure::dark(&scene, &rule(&scene)) as f64;
+            most = most.max(dark / (scene.column * scene.height) as f64);
+        }
+    }
+    println!("\nAn empty column: at most {:.1} % of it are judged dark.", 100.0 * most);
+}
+
+fn defaults(_: &Scene) -> ReadingConfig {
+    ReadingConfig::default()
+}
+
+fn rule(scene: &Scene) -> ReadingConfig {
+    ReadingConfig::for_column(scene.column)
+}
+
+/// Some columns, every liquid, every fill level.
+fn some(columns: [usize; 3], times: usize) -> Vec<Scene> {
+    let mut scenes = Vec::new();
+    for column in columns {
+        for liquid in LIQUIDS {
+            for level in LEVELS {
+                let seed = 100 + scenes.len() as u64;
+                scenes.push(Scene { liquid, level, seed, ..Scene::new(column, times) });
+            }
+        }
+    }
+    scenes
+}
+
+fn changes<'a, const N: usize>(name: &str, values: [f64; N], set: fn(&mut Scene, f64)) -> Vec<Change<'a>> {
+    let change = |value: f64| -> Change<'a> {
+        let changed = move |mut scene: Scene| {
+            set(&mut scene, value);
+            scene
+        };
+        (format!("{name} {value}"), Box::new(changed))
+    };
+    values.into_iter().map(change).collect()
+}
+
+fn tables() {
+    let widths = [8, 12, 16, 24, 32, 40, 56, 80, 112, 160, 224, 320];
+    by_width("Defaults, found / wrong:", &widths[..7], defaults);
+    by_width("for_column, found / wrong:", &widths, rule);
+    empty_columns();
+    at_random(1000);
+    let liquids = changes("liquid", LIQUIDS, |scene, liquid| scene.liquid = liquid);
+    let widths = changes("column", [8.0, 20.0, 56.0], |scene, column| {
+        let times = scene.width / scene.column;
+        let made = Scene::new(column as usize, times);
+        (scene.column, scene.width, scene.height) = (made.column, made.width, made.height);
+    });
+    let light = changes("lost", [0.05, 0.1, 0.15, 0.2, 0.3, 0.4], |scene, falloff| scene.falloff = falloff);
+    let times = changes("times", [3.0, 4.0, 6.0, 8.0, 12.0], |scene, times| {
+        let made = Scene::new(scene.column, times as usize);
+        (scene.width, scene.height) = (made.width, made.height);
+    });
+    shares(
+        "Light lost to the corners, by the picture's width in columns:",
+        &times,
+        &light,
+        &some([24, 64, 96], 3),
+        rule,
+    );
+    let noise = changes("noise", [0.0, 1.0, 2.0, 3.0, 4.0, 6.0, 8.0], |scene, noise| scene.noise = noise);
+    shares("Noise, by the liquid:", &liquids, &noise, &some([8, 20, 56], 4), rule);
+    let middle = changes("light", [80.0, 120.0, 160.0, 200.0, 240.0], |scene, light| scene.light = light);
+    shares("Light in the middle, by the liquid:", &liquids, &middle, &some([8, 20, 56], 4), rule);
+    let empty = changes("empty", [0.85, 0.9, 0.93, 0.95, 0.97, 1.0], |scene, empty| scene.empty = empty);
+    shares("The empty column, by the liquid:", &liquids, &empty, &some([8, 20, 56], 4), rule);
+    println!("\nA column taken for narrower or wider than it is:\n");
+    println!("| taken for | 0.7 | 0.8 | 0.9 | 0.95 | 1.1 | 1.25 | 1.5 | 2 |\n|---|---|---|---|---|---|---|---|---|");
+    for (head, change) in &widths {
+        print!("| {head} |");
+        for part in [0.7, 0.8, 0.9, 0.95, 1.1, 1.25, 1.5, 2.0] {
+            let made: Vec<Scene> = some([8, 8, 8], 3).into_iter().map(change).collect();
+            let taken = |scene: &Scene| ReadingConfig::for_column((scene.column as f64 * part).round() as usize);
+            let good = made.iter().filter(|scene| measure(scene, &taken(scene)).good()).count();
+            print!(" {} |", 100 * good / made.len());
+        }
+        println!();
+    }
+}
+
+fn short() {
+    let mut count = 0;
+    for column in [8, 14, 33, 64] {
+        for liquid in LIQUIDS {
+            for scene in range(column, liquid).into_iter().filter(|scene| scene.width <= 400) {
+                let score = measure(&scene, &rule(&scene));
+                if !score.good() {
+                    println!("settings: {scene:?} is read badly: {score:?}");
+                    exit(1);
+                }
+                count += 1;
+            }
+        }
+    }
+    println!("settings: {count} pictures of columns are read as docs/SETTINGS.md says");
+}
+
+fn main() {
+    match std::env::args().nth(1).as_deref() {
+        None => tables(),
+        Some("short") => short(),
+        Some(_) => {
+            eprintln!("usage: settings [short]");
+            exit(2);
+        }
+    }
+}

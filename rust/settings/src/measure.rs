@@ -1,0 +1,52 @@
+//! A reading held against what is known to be liquid.
+
+use crate::scene::{Picture, Scene};
+use imgproc::reading::{ReadingConfig, ReadingWorkspace};
+
+/// How much of the liquid was judged dark, and how much else, both over the pixels of liquid.
+#[derive(Clone, Copy, Debug)]
+pub struct Score {
+    pub found: f64,
+    pub wrong: f64,
+}
+
+impl Score {
+    /// The score that a worse one makes worse.
+    pub const BEST: Self = Self { found: 1.0, wrong: 0.0 };
+
+    /// At least 99 % found, at most 1 % wrong.
+    pub fn good(self) -> bool {
+        self.found >= 0.99 && self.wrong <= 0.01
+    }
+
+    pub fn worse(self, other: Self) -> Self {
+        Self { found: self.found.min(other.found), wrong: self.wrong.max(other.wrong) }
+    }
+}
+
+/// Reads a scene, which has some liquid.
+pub fn measure(scene: &Scene, config: &ReadingConfig) -> Score {
+    let picture = scene.picture();
+    let (mut liquid, mut found, mut wrong) = (0u32, 0u32, 0u32);
+    for (dark, &is_liquid) in judged(&picture, config).into_iter().zip(&picture.liquid) {
+        liquid += u32::from(is_liquid);
+        found += u32::from(dark && is_liquid);
+        wrong += u32::from(dark && !is_liquid);
+    }
+    let share = |count: u32| f64::from(count) / f64::from(liquid);
+    Score { found: share(found), wrong: share(wrong) }
+}
+
+/// The pixels of a scene that are judged dark.
+pub fn dark(scene: &Scene, config: &ReadingConfig) -> usize {
+    judged(&scene.picture(), config).into_iter().filter(|&dark| dark).count()
+}
+
+/// Whether each pixel is judged dark.
+fn judged(picture: &Picture, config: &ReadingConfig) -> Vec<bool> {
+    let geometry = picture.geometry;
+    let mut marked = vec![config.sauvola.light_value; geometry.area()];
+    let mut workspace = ReadingWorkspace::new(geometry, config).expect("good settings and sides");
+    workspace.reading(&picture.data, geometry, &mut marked, geometry).expect("accepted");
+    marked.into_iter().map(|value| value == config.sauvola.dark_value).collect()
+}
