@@ -13,7 +13,8 @@ use Rattle.imgproc.specs.declared.reading.Read.{Read}
 use Rattle.imgproc.specs.Division.{divisionDefaults}
 use Rattle.imgproc.specs.Grid.{gridDefaults}
 use Rattle.imgproc.specs.Sauvola.{sauvolaDefaults}
-use Rattle.imgproc.specs.Reading.{Reads}
+use Rattle.imgproc.specs.Reading.{ReadingNumbers, readAnswer, Reads}
+use Rattle.image.specs.Answers.{Answer}
 use Rattle.pgm.specs.declared.Parsed.the-variants.{Picture, Malformed}
 use Rattle.pgm.specs.Form.{header, Form, Answers}
 use Rattle.pgm.specs.FormLaws.{same-header, after-header}
@@ -30,20 +31,21 @@ pub defaults : (d : BackgroundDivideConfig) (g : TileThresholdConfig) (s : Sauvo
 defaults d g s p q r = ap (λ (x : BackgroundDivideConfig). joined x g s) p ∙ ap (λ (x : TileThresholdConfig). joined divisionDefaults x s) q ∙ ap (joined divisionDefaults gridDefaults) r
 
 -- the line of a reading's answer, once the answer is known
-pub line-of : (w h : ℕ) {read known : Read} (out : List ℕ) {n : ℕ} (out′ : List ℕ) → read ≡ known → Writes (answerOf w h known) out n out′ → Writes (answerOf w h read) out n out′
-line-of w h out {n = n} out′ e x = subst (λ (r : Read). Writes (answerOf w h r) out n out′) (sym e) x
+pub line-of : (w h : ℕ) {read known : Read} (out : List ℕ) {n : ℕ} (out′ : List ℕ) → read ≡ known
+    → Writes (answerOf w h (readAnswer known)) out n out′ → Writes (answerOf w h (readAnswer read)) out n out′
+line-of w h out {n = n} out′ e x = subst (λ (r : Read). Writes (answerOf w h (readAnswer r)) out n out′) (sym e) x
 
 pub refused-of : {n m : ℕ} (out : List ℕ) {k : ℕ} (out′ : List ℕ) → n ≡ m → Writes (refusedLine n) out k out′ → Writes (refusedLine m) out k out′
 refused-of out {k = k} out′ e x = subst (λ (n : ℕ). Writes (refusedLine n) out k out′) e x
 
 -- a picture that was read with the settings, and the line of what was read
-pub answered : (w h : ℕ) (pixels : List ℕ) {lent left : Buffers} {n : ℕ} {s : ReadingConfig} {read : Read} →
+pub answered : (w h : ℕ) (pixels : List ℕ) {lent left : Buffers} {n : ℕ} {s : ReadingConfig} {read : Answer ReadingNumbers} →
     s ≡ settings → Reads (lentTo w h pixels lent s) read (leftBy left) → Writes (answerOf w h read) (lent .out) n (left .out) →
     AnswersPicture w h pixels lent n left
 answered w h pixels {lent} {left} {n} {read = read} e r x =
     let q = subst (λ (s : ReadingConfig). Reads (lentTo w h pixels lent s) read (leftBy left)) e r in
     record {
-      writes = subst (λ (a : Read). Writes (answerOf w h a) (lent .out) n (left .out)) (q .answers) x;
+      writes = subst (λ (a : Answer ReadingNumbers). Writes (answerOf w h a) (lent .out) n (left .out)) (q .answers) x;
       reads = record { answers = refl; leaves = q .leaves; bytes-left = q .bytes-left; words-left = q .words-left };
     }
 

@@ -15,8 +15,8 @@ use Rattle.image.specs.PlaneLaws.{packed-again}
 use Rattle.imgproc.specs.declared.Check.{Check}
 use Rattle.imgproc.specs.declared.Check.the-variants.{Accepted, Refused}
 use Rattle.imgproc.specs.declared.ImgProcError.the-variants.{Image}
-use Rattle.imgproc.specs.Refusals as Refusals
-use Rattle.imgproc.specs.Reading.{readingCheckOf, readingOf, readBy, marked}
+use Rattle.imgproc.specs.Refusals.{first, answerBy, leftBy}
+use Rattle.imgproc.specs.Reading.{readingConditions, readingOf, marked}
 use Rattle.pgm.specs.declared.Parsed.{Parsed}
 use Rattle.pgm.specs.declared.Parsed.the-variants.{Picture, Malformed}
 use Rattle.pgm.specs.Form.{Form, Answers}
@@ -36,9 +36,9 @@ module _ (input : List ℕ) {lent left : Buffers} {n : ℕ}
     Answer = AnswersAndMarks input (lent .dst) (lent .out) n (left .dst) (left .out)
 
     -- of a picture, once the check and the pixels are known
-    picture : (w h : ℕ) (f : Form input w h) (check : Check) → readingCheckOf (lentTo w h (f .pixels) lent settings) ≡ check →
-        answerOf w h (readBy check (readingOf settings w h (packed (f .pixels) w h w))) ≡ pictureLine w h (f .pixels) →
-        Refusals.leftBy check (painted (marked settings w h (packed (f .pixels) w h w)) w h w (lent .dst)) (lent .dst)
+    picture : (w h : ℕ) (f : Form input w h) (check : Check) → first (readingConditions (lentTo w h (f .pixels) lent settings)) ≡ check →
+        answerOf w h (answerBy check (readingOf settings w h (packed (f .pixels) w h w))) ≡ pictureLine w h (f .pixels) →
+        leftBy check (painted (marked settings w h (packed (f .pixels) w h w)) w h w (lent .dst)) (lent .dst)
         ≡ pictureMarks w h (f .pixels) (lent .dst) →
         Answer
     unfolding Answer
@@ -46,10 +46,10 @@ module _ (input : List ℕ) {lent left : Buffers} {n : ℕ}
         let x = a .picture w h f in
         let counts = readingOf settings w h (packed (f .pixels) w h w) in
         let marks = painted (marked settings w h (packed (f .pixels) w h w)) w h w (lent .dst) in
-        let text = ap (λ (k : Check). answerOf w h (readBy k counts)) c ∙ p ∙ sym (line-picture input w h f) in
+        let text = ap (λ (k : Check). answerOf w h (answerBy k counts)) c ∙ p ∙ sym (line-picture input w h f) in
         record {
           writes = subst (λ (t : List ℕ). Writes t (lent .out) n (left .out)) text (x .writes);
-          marks = x .reads .leaves ∙ ap (λ (k : Check). Refusals.leftBy k marks (lent .dst)) c ∙ m ∙ sym (marks-picture input w h f (lent .dst));
+          marks = x .reads .leaves ∙ ap (λ (k : Check). leftBy k marks (lent .dst)) c ∙ m ∙ sym (marks-picture input w h f (lent .dst));
         }
 
     either : (w h : ℕ) (f : Form input w h) (e : Bool) → empty w h ≡ e → Answer

@@ -4,13 +4,11 @@ use mathlib.Core.Path.{_≡_}
 use mathlib.Core.List.{List, [], _∷_}
 use lib.IntN.{pos}
 use Rattle.image.specs.declared.Geometry.{Geometry}
+use Rattle.image.specs.Answers.{Answer, accepted, refused}
 use Rattle.imgproc.specs.declared.grid.TileThresholdMethod.the-variants.{Midrange}
 use Rattle.imgproc.specs.declared.reading.ReadingConfig.{ReadingConfig}
-use Rattle.imgproc.specs.declared.reading.ReadingCounts.{ReadingCounts}
-use Rattle.imgproc.specs.declared.reading.Read.{Read}
-use Rattle.imgproc.specs.declared.reading.Read.the-variants.{Counts, Refused}
-use Rattle.imgproc.specs.Refusals.{errorNumber}
-use Rattle.imgproc.specs.Reading.{readBy, ReadingLent, ReadingLeft, readingCheckOf, countsOf, Reads}
+use Rattle.imgproc.specs.Refusals.{first, answerBy}
+use Rattle.imgproc.specs.Reading.{ReadingLent, ReadingLeft, ReadingNumbers, readingConditions, numbersFrom, Reads}
 use Rattle.pgm.specs.declared.Parsed.the-variants.{Malformed}
 use Rattle.pgm.specs.Form.{Form, parsedNumber}
 use Rattle.pgm.specs.Line.{line, refusedLine, Writes}
@@ -52,17 +50,17 @@ lentTo w h pixels lent s =
 abbrev pub leftBy : Buffers → ReadingLeft
 leftBy left = record { dst = left .dst; bytes = left .bytes; words = left .words }
 
-abbrev pub readOf : ReadingLent → Read
-readOf lent = readBy (readingCheckOf lent) (countsOf lent)
+abbrev pub readOf : ReadingLent → Answer ReadingNumbers
+readOf lent = answerBy (first (readingConditions lent)) (numbersFrom lent)
 
 -- the line of a reading's counts: width, height, dark, light, skipped, comparisons
-abbrev pub countsLine : ℕ → ℕ → ReadingCounts → List ℕ
-countsLine w h c = line (w ∷ h ∷ c .dark ∷ c .light ∷ c .skipped ∷ c .tally .comparisons ∷ [])
+abbrev pub countsLine : ℕ → ℕ → ReadingNumbers → List ℕ
+countsLine w h c = line (w ∷ h ∷ c .dark ∷ c .light ∷ c .skipped ∷ c .comparisons ∷ [])
 
 -- the line of a reading's answer: its counts, or the refusal's number
-abbrev pub answerOf : ℕ → ℕ → Read → List ℕ
-answerOf w h (Counts c) = countsLine w h c
-answerOf w h (Refused e) = refusedLine (errorNumber e)
+abbrev pub answerOf : ℕ → ℕ → Answer ReadingNumbers → List ℕ
+answerOf w h (accepted c) = countsLine w h c
+answerOf w h (refused n) = refusedLine n
 
 -- the answer to a picture: its line is written, and the destination and the workspaces are as the reading leaves them
 pub record AnswersPicture (w h : ℕ) (pixels : List ℕ) (lent : Buffers) (answer : ℕ) (left : Buffers) : Type 0 where

@@ -3,20 +3,26 @@
 use Prim.Native.Nat.{ℕ, _+_, _-_, _*_, _/_, _≤_, _<_}
 use native.Mathlib.Nat.{mul-le-mul, mul-comm}
 use native.Mathlib.Omega.{arith}
-use mathlib.Core.Path.{_≡_, refl, ap}
+use mathlib.Core.Path.{_≡_, refl, ap, _∙_}
 use mathlib.Core.Bool.{true}
-use borrow.Author.Tests.{le-ltb, eq-eqb}
+use borrow.Author.Tests.{le-ltb}
 use Rattle.image.specs.declared.LumaError.the-variants.{EmptyDimensions}
-use Rattle.image.specs.Layout.{Kept, layoutOf}
-use Rattle.image.specs.LayoutLaws.{kept-valid}
+use Rattle.image.specs.Layout.{Kept}
+use Rattle.image.specs.LayoutLaws.{no-sides}
 use Rattle.imgproc.specs.declared.Check.the-variants.{Accepted, Refused}
 use Rattle.imgproc.specs.declared.ImgProcError.the-variants.{Image}
-use Rattle.imgproc.specs.GridCalls.{tileCount}
-use Rattle.imgproc.specs.Refusals.{tableEntries}
-use Rattle.imgproc.specs.Reading.{readingCheck}
+use Rattle.imgproc.specs.GridCalls.{gridSettings, tileCount}
+use Rattle.imgproc.specs.Refusals.{Conditions, first, _then_, pairConditions, divisionSettings, sauvolaSettings, tableEntries}
+use Rattle.imgproc.specs.RefusalLaws.{then-accepted, passes-last, source-refused, pair-taken}
+use Rattle.imgproc.specs.Reading.{readingSettings, readingRoom}
 use Rattle.pgm.specs.Form.{sideLimit}
 use Rattle.answer.specs.Answer.{settings, tight}
 use Rattle.answer.specs.Program.{empty, mostPixels, mostTiles, mostBytes, mostWords}
+
+-- the program's settings are accepted
+settings-taken : first (readingSettings settings) ≡ Accepted
+unfolding first readingSettings divisionSettings gridSettings sauvolaSettings
+settings-taken = refl
 
 module _ (w h : ℕ) (W : 0 < w) (H : 0 < h) (ww : w ≤ sideLimit) (hh : h ≤ sideLimit) where
   area : w * h ≤ mostPixels
@@ -46,19 +52,19 @@ module _ (w h : ℕ) (W : 0 < w) (H : 0 < h) (ww : w ≤ sideLimit) (hh : h ≤ 
 
   pub room-enough : (pixels dst bytes words : ℕ) →
       w * h ≤ pixels → mostPixels ≤ dst → mostBytes ≤ bytes → mostWords ≤ words →
-      readingCheck pixels (tight w h) dst (tight w h) settings bytes words ≡ Accepted
+      first (pairConditions pixels (tight w h) dst (tight w h) then readingSettings settings then readingRoom (tight w h) settings bytes words) ≡ Accepted
   room-enough pixels dst bytes words p d b q =
-      rw (
-        kept-valid (kept pixels p),
-        kept-valid (kept dst (omega (arith, area))),
-        eq-eqb w w refl,
-        eq-eqb h h refl,
+      let room = readingRoom (tight w h) settings bytes words in
+      then-accepted (pairConditions pixels (tight w h) dst (tight w h)) (readingSettings settings then room) (pair-taken (kept pixels p) (kept dst (omega (arith, area))) refl refl)
+      ∙ then-accepted (readingSettings settings) room settings-taken
+      ∙ passes-last _ _
+      (rw (
         le-ltb bytes (9 * (w * h) + 2 * tileCount (settings .grid) w h) (omega (arith, area, tiles)),
         le-ltb words (tableEntries w h + 5 * tileCount (settings .grid) w h) (omega (arith, entries, tiles)),
-      )
+      ))
 
 -- a zero side is refused before all else
-pub empty-refused : (w h pixels dst bytes words : ℕ) → empty w h ≡ true →
-    readingCheck pixels (tight w h) dst (tight w h) settings bytes words ≡ Refused (Image EmptyDimensions)
-unfolding layoutOf
-empty-refused w h pixels dst bytes words e = rw e
+pub empty-refused : (w h pixels dst : ℕ) (rest : Conditions) → empty w h ≡ true →
+    first (pairConditions pixels (tight w h) dst (tight w h) then rest) ≡ Refused (Image EmptyDimensions)
+empty-refused w h pixels dst rest e =
+    source-refused pixels (tight w h) dst (tight w h) rest (no-sides pixels (tight w h) e)

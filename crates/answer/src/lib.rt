@@ -10,6 +10,7 @@ use pgm::Parsed;
 ghost use mathlib.Core.Path.{_≡_};
 ghost use Rattle.answer.specs.Answer.{settings, answerOf, AnswersPicture, AnswersInput};
 ghost use Rattle.answer.specs.Program.{programLine, AnswersAndMarks, ReadPart, PrintsStart};
+ghost use Rattle.imgproc.specs.Reading.{readAnswer};
 ghost use Rattle.pgm.specs.Line.{Writes};
 
 // The number of an input that is no picture.
@@ -50,7 +51,7 @@ fn settings() -> ReadingConfig
 
 // Writes the line of a reading's answer.
 fn write_read(width: usize, height: usize, read: Read, out: &mut [u8]) -> usize
-    ensures { λ r. ⌜ Writes (answerOf width height read) (now (out .entry)) r (now (out .exit)) ⌝ }
+    ensures { λ r. ⌜ Writes (answerOf width height (readAnswer read)) (now (out .entry)) r (now (out .exit)) ⌝ }
 {
     match read {
         Read::Counts(counts) => {

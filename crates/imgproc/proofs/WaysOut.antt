@@ -15,7 +15,7 @@ use Rattle.imgproc.specs.declared.ImgProcError.the-variants.{Image, Dime
 use Rattle.imgproc.specs.declared.Check.{Check}
 use Rattle.imgproc.specs.declared.Check.the-variants.{Accepted, Refused}
 use Rattle.imgproc.specs.Refusals.{Conditions, first, refusedIf, _then_, viewConditions, pairConditions}
-use Rattle.imgproc.specs.RefusalLaws.{then-refused, then-accepted, refuses-last, passes-last, view-refused, view-accepted}
+use Rattle.imgproc.specs.RefusalLaws.{source-refused, then-refused, then-accepted, refuses-last, passes-last, view-refused, view-accepted}
 
 -- ---- what is known where a call leaves: each is a record, so that its numbers are found
 
@@ -58,10 +58,6 @@ module _ (a : ℕ) (s : Geometry) (b : ℕ) (t : Geometry) (rest : Conditions) w
   abbrev sizes : Conditions
   sizes = refusedIf (not (eqb (s .width) (t .width) && eqb (s .height) (t .height))) DimensionMismatch
 
-  -- the source's layout refuses
-  source-out : {e : LumaError} → layoutOf a s ≡ Invalid e → first (pairConditions a s b t then rest) ≡ Refused (Image e)
-  source-out i = then-refused (pairConditions a s b t) rest (then-refused (viewConditions a s) (viewConditions b t then sizes) (view-refused a s i))
-
   module _ {g : Geometry} (i : layoutOf a s ≡ Valid g) where
     -- the source's layout is taken
     source-in : first (pairConditions a s b t) ≡ first (viewConditions b t then sizes)
@@ -86,7 +82,7 @@ module _ (a : ℕ) (s : Geometry) (b : ℕ) (t : Geometry) (rest : Conditions) w
 -- ---- the ways out, of what the code knows there: `search` finds the premises
 module _ {a : ℕ} {s : Geometry} {b : ℕ} {t : Geometry} {rest : Geometry → Conditions} {l : Layout} (is : l ≡ layoutOf a s) where
   pub source-turned : {e r : LumaError} → l ≡ Invalid e → r ≡ refusalOf l → Comes a s b t rest (Refused (Image r))
-  source-turned i q = record { is = rw (q ∙ ap refusalOf i) (source-out a s b t (rest s) (sym is ∙ i)) }
+  source-turned i q = record { is = rw (q ∙ ap refusalOf i) (source-refused a s b t (rest s) (sym is ∙ i)) }
 
   module _ {g : Geometry} (i : l ≡ Valid g) {m : Layout} (is′ : m ≡ layoutOf b t) where
     pub target-turned : {e r : LumaError} → m ≡ Invalid e → r ≡ refusalOf m → Comes a s b t rest (Refused (Image r))

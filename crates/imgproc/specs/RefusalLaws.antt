@@ -6,14 +6,14 @@ use mathlib.Core.Path.{_≡_, refl, sym, ap, ap₂, _∙_}
 use mathlib.Core.Bool.{Bool, true, false, cond, not, _&&_, _||_}
 use mathlib.Core.List.{List, [], _∷_, _++_}
 use lib.Dec.{eqb, ltb}
-use borrow.Author.Tests.{ltb-false, eqb-true, eqb-false, not-false}
+use borrow.Author.Tests.{ltb-false, eqb-true, eqb-false, not-false, eq-eqb}
 use Rattle.image.specs.declared.Geometry.{Geometry}
 use Rattle.image.specs.declared.LumaError.{LumaError}
 use Rattle.image.specs.declared.Layout.{Layout}
 use Rattle.image.specs.declared.Layout.the-variants.{Valid, Invalid}
 use Rattle.image.specs.Answers.{accepted, Condition}
 use Rattle.image.specs.Layout.{Kept, layoutConditions, layoutBy, layoutOf}
-use Rattle.image.specs.LayoutLaws.{neither, both, kept-as}
+use Rattle.image.specs.LayoutLaws.{neither, both, kept-as, kept-valid}
 use Rattle.imgproc.specs.declared.illumination.BackgroundDivideConfig.{BackgroundDivideConfig}
 use Rattle.imgproc.specs.declared.ImgProcError.{ImgProcError}
 use Rattle.imgproc.specs.declared.ImgProcError.the-variants.{Image, DimensionMismatch, InvalidConfiguration}
@@ -142,6 +142,21 @@ division-says d p =
     (kernel-says (d .«structuring_element») (n .0), pos-of-ne-zero (eqb-false (d .«denominator_floor») 0 (n .1)))
 
 -- ---- two pictures
+
+-- the source's layout refuses before all else
+pub source-refused : (srcLen : ℕ) (src : Geometry) (dstLen : ℕ) (dst : Geometry) (rest : Conditions) {e : LumaError}
+    → layoutOf srcLen src ≡ Invalid e → first (pairConditions srcLen src dstLen dst then rest) ≡ Refused (Image e)
+source-refused srcLen src dstLen dst rest i =
+    then-refused (pairConditions srcLen src dstLen dst) rest (then-refused (viewConditions srcLen src) _ (view-refused srcLen src i))
+
+-- two layouts that their slices hold, of one size, are accepted
+pub pair-taken : {srcLen : ℕ} {src : Geometry} {dstLen : ℕ} {dst : Geometry} → Kept srcLen src → Kept dstLen dst
+    → src .width ≡ dst .width → src .height ≡ dst .height → first (pairConditions srcLen src dstLen dst) ≡ Accepted
+pair-taken {srcLen} {src} {dstLen} {dst} s d w h =
+    let last = refusedIf (not (eqb (src .width) (dst .width) && eqb (src .height) (dst .height))) DimensionMismatch in
+    then-accepted (viewConditions srcLen src) (viewConditions dstLen dst then last) (view-accepted srcLen src (kept-valid s))
+    ∙ then-accepted (viewConditions dstLen dst) last (view-accepted dstLen dst (kept-valid d))
+    ∙ passes-last _ _ (rw (eq-eqb (src .width) (dst .width) w, eq-eqb (src .height) (dst .height) h))
 
 -- what an accepted pair says: each slice holds its picture, and the sizes are equal
 pub record Pair (srcLen : ℕ) (src : Geometry) (dstLen : ℕ) (dst : Geometry) : Type 0 where
