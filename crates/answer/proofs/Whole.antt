@@ -15,15 +15,15 @@ use Rattle.image.specs.PlaneLaws.{packed-again}
 use Rattle.imgproc.specs.declared.Check.{Check}
 use Rattle.imgproc.specs.declared.Check.the-variants.{Accepted, Refused}
 use Rattle.imgproc.specs.declared.ImgProcError.the-variants.{Image}
-use Rattle.imgproc.specs.Refusals.{first, answerBy, leftBy}
-use Rattle.imgproc.specs.Reading.{readingConditions, readingOf, marked}
+use Rattle.imgproc.specs.Refusals.{first, _then_, answerBy, leftBy}
+use Rattle.imgproc.specs.Reading.{readingSettings, readingRoom, readingConditions, readingOf, marked}
 use Rattle.pgm.specs.declared.Parsed.{Parsed}
 use Rattle.pgm.specs.declared.Parsed.the-variants.{Picture, Malformed}
 use Rattle.pgm.specs.Form.{Form, Answers}
 use Rattle.pgm.specs.Line.{Writes}
 use Rattle.pgm.specs.Parse.{parsedOf}
 use Rattle.pgm.specs.ParseLaws.{parsed-answers}
-use Rattle.answer.specs.Answer.{settings, Buffers, lentTo, answerOf, AnswersInput}
+use Rattle.answer.specs.Answer.{settings, tight, Buffers, lentTo, answerOf, AnswersInput}
 use Rattle.answer.specs.Program.{empty, pictureLine, pictureMarks, mostPixels, mostBytes, mostWords, AnswersAndMarks}
 use Rattle.answer.specs.ProgramLaws.{line-picture, line-other, marks-picture, marks-by}
 use Rattle.answer.specs.RoomLaws.{room-enough, empty-refused}
@@ -53,7 +53,7 @@ module _ (input : List ℕ) {lent left : Buffers} {n : ℕ}
         }
 
     either : (w h : ℕ) (f : Form input w h) (e : Bool) → empty w h ≡ e → Answer
-    either w h f true x = picture w h f (Refused (Image EmptyDimensions)) (empty-refused w h _ _ _ _ x) (rw x) (rw x)
+    either w h f true x = picture w h f (Refused (Image EmptyDimensions)) (empty-refused w h _ _ (readingSettings settings then readingRoom (tight w h) settings (length (lent .bytes)) (length (lent .words))) x) (rw x) (rw x)
     either w h f false x =
         let s = neither (eqb w 0) (eqb h 0) x in
         let W = pos-of-ne-zero (eqb-false w 0 (s .0)) in

@@ -32,7 +32,7 @@ pub record Answered (input : List ℕ) : Type 0 where
   pub picture :
       (w h : ℕ) (f : Form input w h) → 0 < w → 0 < h →
       let c = readingOf settings w h (f .pixels) in
-      programLine input ≡ line (w ∷ h ∷ c .dark ∷ c .light ∷ c .skipped ∷ c .tally .comparisons ∷ [])
+      programLine input ≡ line (w ∷ h ∷ c .dark ∷ c .light ∷ c .skipped ∷ c .comparisons ∷ [])
 
 zero-side : (w h : ℕ) → empty w h ≡ true → (w ≡ 0) ⊎ (h ≡ 0)
 zero-side w h e = go (eqb w 0) refl
@@ -74,7 +74,7 @@ module _ (input : List ℕ) where
               )
           side false x =
               let c = readingOf settings w h (p .0 .pixels) in
-              let rest = c .dark ∷ c .light ∷ c .skipped ∷ c .tally .comparisons ∷ [] in
+              let rest = c .dark ∷ c .light ∷ c .skipped ∷ c .comparisons ∷ [] in
               absurd (not-refused w h n rest (sym (by-sides w h (p .0) false x) ∙ e))
 
   pub answered : Answered input
