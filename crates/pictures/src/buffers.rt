@@ -1,13 +1,10 @@
-// What a lent slice holds before a call, and whether it holds what it should afterwards: bytes that stand in the list, or
-// else noise. rust/vectors/src/line.rs makes the same noise.
+// What a lent slice holds before a call, and whether it holds what it should afterwards: bytes that stand in the list,
+// or else noise. rust/vectors/src/list.rs makes the same noise.
 use std::num::wrapping_add_usize;
 use std::num::wrapping_sub_usize;
 
-// The part of a case's numbers that lists a slice; noise where it is empty.
-pub struct Part {
-    pub from: usize,
-    pub to: usize,
-}
+// The part of a case's numbers that lists a slice, from a place to another; noise where it is empty.
+pub struct Part(pub usize, pub usize);
 
 // The noise of a seed: its first state, and the state after another.
 fn start(seed: usize) -> usize {
@@ -18,10 +15,6 @@ fn step(state: usize) -> usize {
     (state % 4294967296 * 1664525 + 1013904223) % 4294967296
 }
 
-fn noise(state: usize) -> usize {
-    state / 16777216 % 256
-}
-
 // Both halves of a word are the state.
 fn noise_word(state: usize) -> u64 {
     (state % 4294967296 * 4294967297) as u64
@@ -29,10 +22,10 @@ fn noise_word(state: usize) -> u64 {
 
 // What byte i should be; 256, which is no byte, past the end of its part.
 fn listed(numbers: &[usize], part: Part, i: usize, state: usize) -> usize {
-    let end = part.to;
-    let at = wrapping_add_usize(part.from, i);
-    if part.from == end {
-        return noise(state);
+    let end = part.1;
+    let at = wrapping_add_usize(part.0, i);
+    if part.0 == end {
+        return state / 16777216 % 256;
     }
     if at < end {
         if at < numbers.len() {
@@ -66,7 +59,7 @@ pub fn fill(data: &mut [u8], numbers: &[usize], part: Part, seed: usize) {
 
 // Whether a part is as long as the slice that it lists.
 fn fits(part: Part, length: usize) -> bool {
-    part.from == part.to || wrapping_sub_usize(part.to, part.from) == length
+    part.0 == part.1 || wrapping_sub_usize(part.1, part.0) == length
 }
 
 pub fn same(data: &[u8], numbers: &[usize], part: Part, seed: usize) -> bool {

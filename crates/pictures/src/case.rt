@@ -1,10 +1,12 @@
-// A case: fills what is lent, calls, and judges the answer and what is left. A line's sections: the call and its numbers; the
-// lengths of the slices, which are from, to, other, bytes and words; the answer; then the bytes of from before the call, of to
-// before it, of to after it and of other after it. A slice whose bytes before are not listed holds noise. No call writes
-// `from`. What is not listed after a call is as before if the call was refused, and is else left open.
+// A case: fills what is lent, calls, and judges the answer and what is left. A line's sections: the call and its
+// numbers; the lengths of the slices, which are from, to, other, bytes and words; the answer; then the bytes of from
+// before the call, of to before it, of to after it and of other after it. A slice whose bytes before are not listed
+// holds noise. No call writes `from`. What is not listed after a call is as before if the call was refused, and is else
+// left open.
 use crate::buffers;
 use crate::buffers::Part;
 use crate::calls;
+use crate::calls::Numbers;
 use crate::numbers;
 use crate::numbers::Reader;
 use crate::reply;
@@ -13,7 +15,7 @@ use std::num::wrapping_add_usize;
 
 // The call, its answer, the seed of its noise, and the parts of the line that list bytes.
 struct Case {
-    call: [usize; calls::MOST],
+    call: Numbers,
     answer: Answer,
     seed: usize,
     from: Part,
@@ -22,7 +24,7 @@ struct Case {
     other: Part,
 }
 
-const NOISE: Part = Part { from: 0, to: 0 };
+const NOISE: Part = Part(0, 0);
 
 fn fill(
     c: Case,
@@ -42,7 +44,7 @@ fn fill(
 
 // Whether a slice that a call may write holds what it should.
 fn left(data: &[u8], n: &[usize], before: Part, after: Part, refused: bool, seed: usize) -> bool {
-    if after.from != after.to {
+    if after.0 != after.1 {
         return buffers::same(data, n, after, seed);
     }
     !refused || buffers::same(data, n, before, seed)
@@ -53,30 +55,12 @@ fn left_workspaces(n: &[usize], bytes: &[u8], words: &[u64], refused: bool, seed
     words_left && left(bytes, n, NOISE, NOISE, refused, wrapping_add_usize(seed, 3))
 }
 
-fn left_pictures(
-    c: Case,
-    n: &[usize],
-    from: &[u8],
-    to: &[u8],
-    other: &[u8],
-    refused: bool,
-) -> bool {
-    let first = left(
-        to,
-        n,
-        c.before,
-        c.after,
-        refused,
-        wrapping_add_usize(c.seed, 1),
-    );
-    let second = left(
-        other,
-        n,
-        NOISE,
-        c.other,
-        refused,
-        wrapping_add_usize(c.seed, 2),
-    );
+// Of a source and two destinations; `r` says that the call was refused.
+fn left_slices(c: Case, n: &[usize], from: &[u8], to: &[u8], other: &[u8], r: bool) -> bool {
+    let seed = wrapping_add_usize(c.seed, 1);
+    let first = left(to, n, c.before, c.after, r, seed);
+    let seed = wrapping_add_usize(c.seed, 2);
+    let second = left(other, n, NOISE, c.other, r, seed);
     first && second && buffers::same(from, n, c.from, c.seed)
 }
 
@@ -95,7 +79,7 @@ fn judge(
     let refused = answer[0] != 0;
     let expected = c.answer;
     reply::is(answer, expected)
-        && left_pictures(c, n, from, to, other, refused)
+        && left_slices(c, n, from, to, other, refused)
         && left_workspaces(n, bytes, words, refused, c.seed)
 }
 
@@ -124,21 +108,7 @@ fn lend(c: Case, n: &[usize], lengths: [usize; 5]) -> bool {
     )
 }
 
-fn part(from: Reader, to: Reader) -> Part {
-    Part {
-        from: from.count,
-        to: to.count,
-    }
-}
-
-fn listed(
-    text: &[u8],
-    r: Reader,
-    seed: usize,
-    call: [usize; calls::MOST],
-    lengths: [usize; 5],
-    answer: Answer,
-) -> bool {
+fn listed(text: &[u8], r: Reader, seed: usize, call: Numbers, l: [usize; 5], e: Answer) -> bool {
     let mut n = [0usize; 4096];
     let from = numbers::section(text, r, &mut n);
     let before = numbers::section(text, from, &mut n);
@@ -146,19 +116,19 @@ fn listed(
     let other = numbers::section(text, after, &mut n);
     let case = Case {
         call: call,
-        answer: answer,
+        answer: e,
         seed: seed,
-        from: part(r, from),
-        before: part(from, before),
-        after: part(before, after),
-        other: part(after, other),
+        from: Part(r.count, from.count),
+        before: Part(from.count, before.count),
+        after: Part(before.count, after.count),
+        other: Part(after.count, other.count),
     };
-    numbers::whole(text, other) && lend(case, &n, lengths)
+    numbers::whole(text, other) && lend(case, &n, l)
 }
 
 // Whether the case that begins at a place holds.
 pub fn holds(text: &[u8], at: usize, seed: usize) -> bool {
-    let mut call = [0; calls::MOST];
+    let mut call = [0; 24];
     let mut lengths = [0; 5];
     let mut answer = [0; 5];
     let r = numbers::section(text, numbers::begin(at), &mut call);

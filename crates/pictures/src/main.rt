@@ -1,5 +1,5 @@
-// Replays the lists that it is named against the libraries, and writes a line for each: its name, how many cases it has,
-// how many came out wrong, and the line of the first of those.
+// Replays the lists that its arguments name against the libraries, and writes a line for each: its name, how many cases
+// it has, how many came out wrong, and the line of the first of those.
 mod buffers;
 mod calls;
 mod case;

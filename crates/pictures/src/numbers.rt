@@ -1,5 +1,5 @@
-// The text of a list: a case a line, its sections separated by ';', each of them numbers separated by spaces. Empty lines
-// and lines that begin with '#' hold no case.
+// The text of a list: a case a line, its sections separated by ';', each of them numbers separated by spaces. Empty
+// lines and lines that begin with '#' hold no case.
 use std::num::wrapping_add_usize;
 
 // Where a reader stands: the next byte, the place of its next number in the array, what it has read of that number, and

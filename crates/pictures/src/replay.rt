@@ -3,8 +3,8 @@ use crate::case;
 use crate::numbers;
 use std::num::wrapping_add_usize;
 
-// How many lines were read, how many cases they hold, how many came out wrong, and the line of the first of them. The noise
-// of a case has five seeds, and the first is eight above that of the case before it.
+// How many lines were read, how many cases they hold, how many came out wrong, and the line of the first of them. The
+// noise of a case has five seeds, and the first is eight above that of the case before it.
 pub struct Score {
     line: usize,
     seed: usize,

@@ -52,20 +52,16 @@ fn offset(bits: usize) -> i16 {
     !((65535 - bits) as i16)
 }
 
-fn infinite(bits: u64) -> f64 {
-    if bits < 9223372036854775808 {
-        return 1.0 / 0.0;
-    }
-    -1.0 / 0.0
-}
-
 // The float of a pattern; of a NaN's, a NaN.
 fn float(bits: u64) -> f64 {
     if bits % 9223372036854775808 / 4503599627370496 == 2047 {
         if bits % 4503599627370496 != 0 {
             return 0.0 / 0.0;
         }
-        return infinite(bits);
+        if bits < 9223372036854775808 {
+            return 1.0 / 0.0;
+        }
+        return -1.0 / 0.0;
     }
     f64::from_bits(bits)
 }
@@ -81,22 +77,13 @@ fn method(kind: usize, k: usize, range: usize) -> TileThresholdMethod {
 }
 
 // Tile sides, neighbourhood radius and contrast floor, the method's kind, k and range, and the offset.
-pub fn grid(
-    tile_width: usize,
-    tile_height: usize,
-    radius: usize,
-    floor: usize,
-    kind: usize,
-    k: usize,
-    range: usize,
-    offset_bits: usize,
-) -> TileThresholdConfig {
+pub fn grid(s: [usize; 8]) -> TileThresholdConfig {
     TileThresholdConfig {
-        tile_width: tile_width,
-        tile_height: tile_height,
-        neighborhood_radius: radius,
-        threshold_offset: offset(offset_bits),
-        contrast_floor: byte(floor),
-        method: method(kind, k, range),
+        tile_width: s[0],
+        tile_height: s[1],
+        neighborhood_radius: s[2],
+        threshold_offset: offset(s[7]),
+        contrast_floor: byte(s[3]),
+        method: method(s[4], s[5], s[6]),
     }
 }

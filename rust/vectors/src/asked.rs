@@ -1,5 +1,6 @@
-//! The answer of an accepted call, by its number. Of the calls on pictures and of queries it is a plain computation, which
-//! stands here; of the others it is what the published Rust answers. The Rust does not count comparisons: walk.rs does.
+//! The answer of an accepted call, by its number. Of the calls on pictures and of queries it is a plain computation,
+//! which stands here; of the others it is what the published Rust answers. The Rust does not count comparisons:
+//! walk.rs does.
 
 use crate::chain::{self, Settings};
 use crate::list::Answer;
@@ -73,12 +74,7 @@ pub fn sauvola(s: &[u64]) -> SauvolaConfig {
 
 /// Element, target and floor, the opening's kernel, the grid's eight, Sauvola's five.
 pub fn reading(s: &[u64]) -> Settings {
-    Settings {
-        division: division(s),
-        opening_kernel: s[3] as usize,
-        grid: grid(&s[4..]),
-        sauvola: sauvola(&s[12..]),
-    }
+    Settings { division: division(s), opening_kernel: s[3] as usize, grid: grid(&s[4..]), sauvola: sauvola(&s[12..]) }
 }
 
 pub fn answer(n: &[u64], from: &[u8], to: Vec<u8>, other: Vec<u8>) -> Answer {

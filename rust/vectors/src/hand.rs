@@ -1,5 +1,5 @@
-//! The calls on one picture. Tables that were written by hand from document 01 (rust/vectors/hand) give the pictures, the
-//! places and the numbers; each row of a table is asked of every call that it fits.
+//! The calls on one picture. Tables that were written by hand from document 01 (rust/vectors/hand) give the pictures,
+//! the places and the numbers; each row of a table is asked of every call that it fits.
 
 use crate::asked::{CHECK_PIXEL, CHECK_ROW, GET, LAYOUT, PACK, ROW, ROW_MUT, SET, UNPACK};
 use crate::list::{Line, List, FROM};
@@ -74,7 +74,8 @@ fn plane(l: &mut List, picture: Picture, room: u64, at: u64, number: u64) {
 }
 
 pub fn layouts() -> List {
-    let what = "Layouts: calls 0 to 6 (layout, check_pixel, check_row, get, set, row, row_mut) at (0, 0), and 7 and 8 (pack, unpack).";
+    let what =
+        "Layouts: calls 0 to 8 (layout, check_pixel, check_row, get, set, row, row_mut, pack, unpack), at (0, 0).";
     from_table("layouts", include_str!("../hand/layouts.txt"), what, |l, row| {
         let picture: Picture = row.numbers();
         let [number] = row.numbers();

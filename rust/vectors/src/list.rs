@@ -1,7 +1,7 @@
-//! A list of cases as crates/pictures replays it. A line has its sections in this order, separated by ';': the call and its
-//! numbers; the lengths of the five slices that are lent; the number and the values of the answer; the bytes of the first
-//! slice before the call, of the second before it, of the second after it, and of the third after it. Slices whose bytes
-//! before the call do not stand in the line hold noise.
+//! A list of cases as crates/pictures replays it. A line has its sections in this order, separated by ';': the call
+//! and its numbers; the lengths of the five slices that are lent; the number and the values of the answer; the bytes
+//! of the first slice before the call, of the second before it, of the second after it, and of the third after it.
+//! Slices whose bytes before the call do not stand in the line hold noise.
 
 use crate::asked;
 use std::fmt::Write;
@@ -52,15 +52,19 @@ pub struct List {
 impl List {
     /// A list whose head says what it holds and how it was made.
     pub fn new(name: &str, head: &[&str]) -> Self {
+        let form = "A line: call numbers; lengths; number values; bytes before and after (rust/vectors/src/list.rs).";
         let mut list = Self::default();
-        list.comments(head);
-        list.comment("A line: call numbers; lengths; number values; bytes before and after (rust/vectors/src/list.rs). Made by");
-        list.comment(&format!("cargo run --release -p vectors -- {name}"));
+        let mut line = String::new();
+        for word in [head, &[form]].concat().join(" ").split(' ') {
+            if line.len() + 1 + word.len() > 116 {
+                list.comment(&line);
+                line.clear();
+            }
+            line = if line.is_empty() { word.to_owned() } else { format!("{line} {word}") };
+        }
+        list.comment(&line);
+        list.comment(&format!("Made by cargo run --release -p vectors -- {name}"));
         list
-    }
-
-    pub fn comments(&mut self, lines: &[&str]) {
-        lines.iter().for_each(|line| self.comment(line));
     }
 
     pub fn comment(&mut self, line: &str) {

@@ -1,14 +1,17 @@
-//! Makes the lists that crates/pictures replays: document 01's refusals, and the answers of the published Rust. `column` is
-//! what the program of that name writes. `check` makes everything again and compares it with what is stored.
+//! Makes the lists that crates/pictures replays: document 01's refusals, and the answers of the published Rust.
+//! `column` is what the program of that name writes. `check` makes everything again and compares it with what is
+//! stored.
 
 mod asked;
 mod chain;
 mod column;
+mod conditions;
+mod grids;
 mod hand;
 mod list;
 mod picture;
 mod program;
-mod queries;
+mod readings;
 mod refusals;
 mod stored;
 mod walk;
@@ -32,11 +35,11 @@ const LISTS: [(&str, fn() -> List); 20] = [
     ("morphology_refusals", refusals::morphology),
     ("division_refusals", refusals::division),
     ("sauvola_refusals", refusals::sauvola),
-    ("grid", stored::grid),
+    ("grid", grids::grid),
     ("grid_refusals", refusals::grid),
-    ("queries", queries::list),
+    ("queries", grids::queries),
     ("queries_refusals", refusals::queries),
-    ("reading", stored::reading),
+    ("reading", readings::reading),
     ("reading_refusals", refusals::reading),
     ("answers", program::list),
 ];
@@ -52,7 +55,8 @@ fn made() -> Vec<(String, String)> {
 /// Whether what is stored is what is made, and no list is stored that is not made.
 fn check(crates: &Path) -> bool {
     let made = made();
-    let differs = |(name, text): &&(String, String)| fs::read(crates.join(name)).ok().as_deref() != Some(text.as_bytes());
+    let differs =
+        |(name, text): &&(String, String)| fs::read(crates.join(name)).ok().as_deref() != Some(text.as_bytes());
     let mut wrong: Vec<String> = made.iter().filter(differs).map(|(name, _)| name.clone()).collect();
     let stored = fs::read_dir(crates.join("pictures/data")).expect("the folder of the lists");
     let stored = stored.map(|file| format!("pictures/data/{}", file.expect("a file").file_name().to_string_lossy()));

@@ -1,101 +1,17 @@
-//! Refusals: each condition of document 01 alone, each pair of conditions together, and each limit, exact and one short.
-//! The numbers are document 01's, and of a pair the earlier one counts: no program is asked. Accepted calls among them are
-//! answered as the stored ones are.
+//! Refusals of each call, with limits exact and one short. Accepted calls among them are answered as the stored ones
+//! are.
 
 use crate::asked::{BUILD, CLOSE, DILATE, DIVIDE, ERODE, IS_SKIP, OPEN, READING, ROW_ALL_SKIP, SAUVOLA, THRESHOLD_AT};
+use crate::conditions::{
+    bad, combined, layout, lent, limits, numbered, pictured, pictures, short, Condition, DESTINATION, SOURCE,
+};
+use crate::grids::{QUERY, TILES};
 use crate::list::{Line, List, BYTES, FROM, OTHER, TO, WORDS};
-use crate::stored::{kernels, room, READINGS, TILES, WINDOW};
-
-/// Where a picture's sides stand among the numbers, and its slice among the lengths.
-type Place = (usize, usize);
-const SOURCE: Place = (1, FROM);
-const DESTINATION: Place = (4, TO);
+use crate::readings::{kernels, READINGS, WINDOW};
+use crate::stored::room;
 
 /// The place of an operator's first setting.
 const SETTINGS: usize = 7;
-
-/// A line with another picture: its length, its sides and its stride.
-fn pictured(line: &Line, (sides, length): Place, [bytes, width, height, stride]: [u64; 4]) -> Line {
-    let mut line = line.clone();
-    line.numbers[sides..sides + 3].copy_from_slice(&[width, height, stride]);
-    line.lengths[length] = bytes;
-    line
-}
-
-fn numbered(line: &Line, index: usize, value: u64) -> Line {
-    let mut line = line.clone();
-    line.numbers[index] = value;
-    line
-}
-
-fn lent(line: &Line, slice: usize, length: u64) -> Line {
-    let mut line = line.clone();
-    line.lengths[slice] = length;
-    line
-}
-
-/// A condition under which a call is refused: its number, its name, and how a call is brought under it.
-type Condition = (u64, String, Box<dyn Fn(&Line) -> Line>);
-
-fn condition(number: u64, what: &str, change: impl Fn(&Line) -> Line + 'static) -> Condition {
-    (number, what.to_owned(), Box::new(change))
-}
-
-/// A number of the line that is refused at a value.
-fn bad(number: u64, what: &str, index: usize, value: u64) -> Condition {
-    condition(number, what, move |line| numbered(line, index, value))
-}
-
-/// A slice that is one short.
-fn short(number: u64, what: &str, slice: usize) -> Condition {
-    condition(number, what, move |line| lent(line, slice, line.lengths[slice] - 1))
-}
-
-/// The conditions of a picture's layout, in document 01's order.
-fn layout(what: &str, place: Place) -> Vec<Condition> {
-    let (sides, length) = place;
-    vec![
-        bad(1, &format!("{what} empty"), sides + 1, 0),
-        condition(2, &format!("{what} stride"), move |l| numbered(l, sides + 2, l.numbers[sides] - 1)),
-        condition(3, &format!("{what} slice"), move |l| {
-            let [width, height, stride] = [0, 1, 2].map(|i| l.numbers[sides + i]);
-            lent(l, length, stride * (height - 1) + width - 1)
-        }),
-        condition(4, &format!("{what} side"), move |l| pictured(l, place, [4097, 4097, 1, 4097])),
-    ]
-}
-
-/// Layouts of the source and of the destination, then sizes that differ.
-fn pictures() -> Vec<Condition> {
-    let mut all = layout("source", SOURCE);
-    all.extend(layout("destination", DESTINATION));
-    all.push(condition(5, "sizes that differ", |line| pictured(line, DESTINATION, [10, 4, 2, 6])));
-    all
-}
-
-/// A good call, each condition alone, then each pair. The later of two is applied first, so that the earlier one holds as
-/// well. `answered` writes a call and its number.
-fn combined(l: &mut List, good: &Line, conditions: &[Condition], answered: impl Fn(&mut List, &Line, u64)) {
-    answered(l, good, 0);
-    l.comment("each condition alone");
-    for (number, _, change) in conditions {
-        answered(l, &change(good), *number);
-    }
-    for (index, (number, what, change)) in conditions.iter().enumerate() {
-        if index + 1 < conditions.len() {
-            l.comment(&format!("{what}, with each later condition"));
-        }
-        for (_, _, later) in &conditions[index + 1..] {
-            answered(l, &change(&later(good)), *number);
-        }
-    }
-}
-
-/// A number of the line at values that are accepted, and at values that are refused.
-fn limits(l: &mut List, good: &Line, index: usize, accepted: &[u64], refused: &[u64], number: u64) {
-    accepted.iter().for_each(|&value| l.answered(&numbered(good, index, value), 0));
-    refused.iter().for_each(|&value| l.answered(&numbered(good, index, value), number));
-}
 
 const ODD: [u64; 4] = [3, 5, 4097, u64::MAX];
 const EVEN_OR_SMALL: [u64; 6] = [0, 1, 2, 4, 4096, u64::MAX - 1];
@@ -153,8 +69,9 @@ fn rooms(l: &mut List, which: u64, settings: &[u64], slice: usize) {
 }
 
 const BY_HAND: &str =
-    "The numbers are document 01's, and of several conditions the earliest counts: no program was asked. A refused call";
-const KEEPS: &str = "leaves every slice as it was. What accepted calls answer is the published Rust's, aukilabs/qr-lab at c99d6ca466.";
+    "The numbers are document 01's, and of several conditions the earliest counts: no program was asked.";
+const KEEPS: &str = "A refused call leaves every slice as it was. What accepted calls answer is the published Rust's, \
+    aukilabs/qr-lab at c99d6ca466.";
 const LAYOUTS: &str = "1 to 4 the source's layout, then the destination's; 5 sizes;";
 
 fn refusals(name: &str, head: &[&str]) -> List {
@@ -174,7 +91,8 @@ fn all(l: &mut List, good: &Line, settings: Vec<Condition>, slice: usize, limits
 }
 
 pub fn morphology() -> List {
-    let head = "Refusals of erosion, dilation, opening and closing, calls 9 to 12: width height stride of both pictures, kernel;";
+    let head =
+        "Refusals of erosion, dilation, opening and closing, calls 9 to 12: both pictures' sides and strides, kernel;";
     let mut l = refusals("morphology_refusals", &[head, LAYOUTS, "6 the kernel; 8 the workspace; 0 accepted."]);
     for which in [ERODE, DILATE, OPEN, CLOSE] {
         all(&mut l, &operator(which, &[3]), vec![bad(6, "the kernel", SETTINGS, 2)], BYTES, |l, good| {
@@ -219,7 +137,9 @@ const K: usize = 9;
 const RANGE: usize = 10;
 
 fn floats(l: &mut List, good: &Line) {
-    l.comment("k and range not finite, range not above 0; then k of either sign and range just above 0, each at its ends");
+    l.comment(
+        "k and range not finite, range not above 0; then k of either sign and range just above 0, each at its ends",
+    );
     let not_finite = [f64::NAN, f64::from_bits(OTHER_NAN), f64::INFINITY, f64::NEG_INFINITY];
     let not_above = [0.0, -0.0, -1.0, -128.0, f64::MIN, -f64::from_bits(1)];
     let finite = [0.0, -0.0, -0.2, f64::from_bits(1), -f64::from_bits(1), f64::MAX, f64::MIN];
@@ -242,9 +162,15 @@ pub fn grid() -> List {
     let mut conditions = layout("source", SOURCE);
     conditions.extend([bad(7, "the tile width", 4, 0), bad(7, "the tile height", 5, 0)]);
     conditions.extend([bad(7, "k", K, f64::INFINITY.to_bits()), bad(7, "the range", RANGE, 0)]);
-    conditions.extend([short(8, "the workspace", WORDS), short(10, "the thresholds", TO), short(10, "the skips", OTHER)]);
+    conditions.extend([
+        short(8, "the workspace", WORDS),
+        short(10, "the thresholds", TO),
+        short(10, "the skips", OTHER),
+    ]);
     combined(&mut l, &good, &conditions, |l, line, number| l.answered(line, number));
-    l.comment("Midrange has no floats; a zero tile side is refused all the same; radius and contrast floor at their ends");
+    l.comment(
+        "Midrange has no floats; a zero tile side is refused all the same; radius and contrast floor at their ends",
+    );
     let midrange = numbered(&numbered(&numbered(&good, METHOD, 0), K, 0), RANGE, 0);
     limits(&mut l, &midrange, 4, &[2], &[0], 7);
     limits(&mut l, &midrange, 5, &[], &[0], 7);
@@ -252,8 +178,14 @@ pub fn grid() -> List {
     limits(&mut l, &midrange, 7, &[0, 255], &[], 7);
     floats(&mut l, &good);
     l.comment("workspace and buffers exact and one short, for each method; ragged tiles, one tile, tiles of one pixel");
-    let shapes =
-        [(4, 3, 2, 2, 4), (5, 4, 2, 3, 6), (5, 4, 16, 16, 1), (5, 4, 1, 1, 20), (5, 4, u64::MAX, 1, 4), (4096, 1, 4096, 1, 1)];
+    let shapes = [
+        (4, 3, 2, 2, 4),
+        (5, 4, 2, 3, 6),
+        (5, 4, 16, 16, 1),
+        (5, 4, 1, 1, 20),
+        (5, 4, u64::MAX, 1, 4),
+        (4096, 1, 4096, 1, 1),
+    ];
     for (width, height, tile_width, tile_height, tiles) in shapes {
         for method in [0, 1] {
             let sized = pictured(&good, SOURCE, [width * height, width, height, width]);
@@ -273,8 +205,8 @@ pub fn grid() -> List {
 }
 
 pub fn reading() -> List {
-    let numbers = "7 the division's settings; 6 the opening's kernel; 7 the grid's, then Sauvola's settings; 8 bytes under 9wh + 2t";
-    let rooms = "or words under 2(w + 1)(h + 1) + 5t, t the number of tiles; 0 accepted.";
+    let numbers = "7 the division's settings; 6 the opening's kernel; 7 the grid's, then Sauvola's settings;";
+    let rooms = "8 bytes under 9wh + 2t or words under 2(w + 1)(h + 1) + 5t, t the number of tiles; 0 accepted.";
     let head = ["Refusals of the reading, call 19:", READINGS].join(" ");
     let mut l = refusals("reading_refusals", &[&head, TILES, WINDOW, LAYOUTS, numbers, rooms]);
     let mut settings = kernels(5, 3);
@@ -290,7 +222,7 @@ pub fn reading() -> List {
     l.comment("the two kernels: odd and at least 3");
     limits(&mut l, &good, 7, &ODD, &EVEN_OR_SMALL, 7);
     limits(&mut l, &good, 10, &ODD, &EVEN_OR_SMALL, 6);
-    l.comment("settings at their ends: target, floor, neighbourhood, contrast floor; Midrange has no floats; radius, k, range");
+    l.comment("settings at their ends; Midrange has no floats");
     limits(&mut l, &good, 8, &[0, 255], &[], 0);
     limits(&mut l, &good, 9, &[1], &[], 0);
     limits(&mut l, &good, 13, &[u64::MAX], &[], 0);
@@ -300,7 +232,7 @@ pub fn reading() -> List {
     limits(&mut l, &good, 19, &[u64::MAX], &[], 0);
     limits(&mut l, &good, 20, &[1000], &[], 0);
     limits(&mut l, &good, 21, &[u64::from(u32::MAX)], &[], 0);
-    l.comment("the workspaces exact, each of them one short, none, and both longer; ragged tiles, one tile, tiles of one pixel");
+    l.comment("the workspaces exact, each of them one short, none, and both longer; several tiles");
     let shapes = [(4, 3, 2, 2), (5, 4, 2, 3), (5, 4, 16, 16), (5, 4, 1, 1), (5, 4, u64::MAX, 1), (1, 1, 1, 1)];
     for (width, height, tile_width, tile_height) in shapes.into_iter().chain([(4096, 1, 16, 16), (1, 4096, 16, 16)]) {
         (settings[4], settings[5], settings[8]) = (tile_width, tile_height, 0);
@@ -323,13 +255,12 @@ fn asked(l: &mut List, query: &Line, pixel: u64, row: u64) {
     }
 }
 
-pub const QUERY: &str = "width height tile-width tile-height tiles-x tiles-y x y";
-
 pub fn queries() -> List {
     let head = "Refusals of queries to a grid, calls 16 (threshold), 17 (skip) and 18 (a row's skips):";
-    let numbers = "7 a side outside 1..4096, a zero tile side, or tile counts that are not the ceilings; 10 a buffer under tiles-x *";
-    let others = "tiles-y bytes; 9 a pixel or row outside; 0 answered: a tile's byte, by a plain computation (asked.rs).";
-    let mut list = List::new("queries_refusals", &[head, QUERY, numbers, others, BY_HAND, "leaves its slice as it was."]);
+    let numbers = "7 a side outside 1..4096, a zero tile side, or tile counts that are not the ceilings;";
+    let others =
+        "10 a buffer under tiles-x * tiles-y bytes; 9 a pixel or row outside; 0 answered by a plain walk (asked.rs).";
+    let mut list = List::new("queries_refusals", &[head, QUERY, numbers, others, BY_HAND]);
     let l = &mut list;
     // 8 by 7 in tiles of 3 by 2: 3 by 4 of them. The numbers from 1 on: sides, tile sides, tile counts, x, y.
     let query = |numbers: [u64; 8], room: u64| Line {

@@ -1,12 +1,12 @@
-//! Calls whose bytes stand in the lists: the operators from a source to a destination, grids and readings.
+//! Operators from a source to a destination whose bytes stand in the lists.
 
-use crate::asked::{BUILD, CLOSE, DILATE, DIVIDE, ERODE, OPEN, READING, SAUVOLA};
+use crate::asked::{CLOSE, DILATE, DIVIDE, ERODE, OPEN, SAUVOLA};
 use crate::list::{Answer, Line, List};
 use crate::picture::{noise, Picture};
 
-const RUST: &str = "The bytes are those of the published Rust, aukilabs/qr-lab at c99d6ca466.";
-const WALK: &str = "The comparisons, which it does not count, are a plain walk over the indices (walk.rs).";
-const EXACT: &str = "The workspaces are as short as they may be.";
+pub const RUST: &str = "The bytes are those of the published Rust, aukilabs/qr-lab at c99d6ca466.";
+pub const WALK: &str = "The comparisons, which it does not count, are a plain walk over the indices (walk.rs).";
+pub const EXACT: &str = "The workspaces are as short as they may be.";
 
 /// The lengths of the two workspaces of an operator, by document 01.
 pub fn room(which: u64, width: u64, height: u64, settings: &[u64]) -> (u64, u64) {
@@ -23,7 +23,7 @@ pub fn room(which: u64, width: u64, height: u64, settings: &[u64]) -> (u64, u64)
 }
 
 /// A call from a picture to a destination of its size, with a stride and a tail.
-fn asked(l: &mut List, which: u64, picture: &Picture, stride: usize, tail: usize, settings: &[u64]) -> Answer {
+pub fn asked(l: &mut List, which: u64, picture: &Picture, stride: usize, tail: usize, settings: &[u64]) -> Answer {
     let [width, height, from] = [picture.width, picture.height, picture.stride].map(|side| side as u64);
     let (bytes, words) = room(which, width, height, settings);
     let to = stride * (picture.height - 1) + picture.width + tail;
@@ -35,9 +35,9 @@ fn asked(l: &mut List, which: u64, picture: &Picture, stride: usize, tail: usize
     })
 }
 
-type Settings<'a> = &'a [&'a [u64]];
+pub type Settings<'a> = &'a [&'a [u64]];
 
-fn each(l: &mut List, what: &str, which: u64, picture: &Picture, stride: usize, tail: usize, settings: Settings) {
+pub fn each(l: &mut List, what: &str, which: u64, picture: &Picture, stride: usize, tail: usize, settings: Settings) {
     l.comment(what);
     for chosen in settings {
         asked(l, which, picture, stride, tail, chosen);
@@ -71,7 +71,8 @@ fn stripes(width: usize, height: usize) -> Vec<u8> {
 }
 
 pub fn morphology() -> List {
-    let head = "Erosion, dilation, opening and closing, calls 9 to 12: width height stride of both pictures, kernel; comparisons.";
+    let head =
+        "Erosion, dilation, opening and closing, calls 9 to 12: both pictures' sides and strides, kernel; comparisons.";
     let mut list = List::new("morphology", &[head, RUST, WALK, EXACT]);
     let l = &mut list;
     four(l, "document 01's row whose erosion starts with 1", &Picture::row(&[5, 6, 1, 9]), 4, 0, 3);
@@ -166,201 +167,5 @@ pub fn sauvola() -> List {
     all("black and white by turns: thresholds above 255", &Picture::packed(6, 4, &board), 6, 0, &spread);
     let rough = [usual.to_vec(), window(2, 200, 128), window(3, 500, 30)];
     all("noise", &Picture::new(7, 7, 8, 0, &noise(49, 23)), 7, 1, &rough);
-    list
-}
-
-/// Of a grid: tile sides, radius, contrast floor, method, k and range as patterns, offset as a pattern.
-pub type Tiles = [u64; 8];
-
-fn tiles(tile_width: u64, tile_height: u64, radius: u64) -> Tiles {
-    [tile_width, tile_height, radius, 12, 0, 0, 0, 0]
-}
-
-fn with_sauvola(mut tiles: Tiles, k: f64, range: f64) -> Tiles {
-    (tiles[4], tiles[5], tiles[6]) = (1, k.to_bits(), range.to_bits());
-    tiles
-}
-
-fn with_offset(mut tiles: Tiles, offset: i16) -> Tiles {
-    tiles[7] = u64::from(offset as u16);
-    tiles
-}
-
-/// The buffers have `tail` bytes more than there are tiles.
-fn build(l: &mut List, picture: &Picture, tail: u64, tiles: Tiles) -> Answer {
-    let [width, height, stride] = [picture.width, picture.height, picture.stride].map(|side| side as u64);
-    let count = width.div_ceil(tiles[0]) * height.div_ceil(tiles[1]);
-    l.accepted(&Line {
-        numbers: [&[BUILD, width, height, stride], &tiles[..]].concat(),
-        lengths: [picture.bytes.len() as u64, count + tail, count + tail, 0, 5 * count],
-        from: picture.bytes.clone(),
-        before: vec![],
-    })
-}
-
-fn midranges(l: &mut List, page: &Picture) {
-    l.comment("Midrange: tiles wider than high and higher than wide, ragged last tiles, neighbourhoods of 0, 1 and 2");
-    for radius in [0, 1, 2] {
-        build(l, page, 3, tiles(3, 2, radius));
-        build(l, page, 0, tiles(2, 4, radius));
-    }
-    l.comment("Midrange: one tile for each pixel, one for all, the largest sides and radius");
-    build(l, page, 0, tiles(1, 1, 0));
-    build(l, page, 1, tiles(1, 1, 1));
-    build(l, page, 2, tiles(16, 16, 1));
-    build(l, page, 0, tiles(u64::MAX, 2, u64::MAX));
-    l.comment("Midrange: offsets to both ends");
-    for offset in [-32_768, -200, -1, 1, 200, 255, 32_512] {
-        build(l, page, 0, with_offset(tiles(4, 3, 0), offset));
-    }
-    l.comment("Midrange: contrast just under the floor, at it, and floors of 0 and 255");
-    let steps = Picture::new(6, 2, 7, 1, &[10, 21, 10, 22, 0, 255, 10, 10, 10, 10, 0, 0]);
-    for floor in [12, 11, 0, 255] {
-        build(l, &steps, 1, [2, 2, 0, floor, 0, 0, 0, 0]);
-    }
-}
-
-fn sauvolas(l: &mut List, page: &Picture) {
-    l.comment("Sauvola: the same tiles");
-    for radius in [0, 1, 2] {
-        build(l, page, 3, with_sauvola(tiles(3, 2, radius), 0.2, 128.0));
-        build(l, page, 0, with_sauvola(tiles(2, 4, radius), 0.5, 100.0));
-    }
-    build(l, page, 0, with_sauvola(tiles(16, 16, 1), 0.34, 127.5));
-    l.comment("Sauvola: settings at their limits, and values below 0 and above 255");
-    let settings = [
-        (0.0, 128.0),
-        (-0.0, 128.0),
-        (-0.3, 64.0),
-        (3.5, 1.0),
-        (-1000.0, 128.0),
-        (1000.0, 0.25),
-        (f64::MAX, 1.0),
-        (-f64::MAX, 1.0),
-        (1.0, f64::MAX),
-        (0.2, f64::from_bits(1)),
-        (f64::from_bits(1), f64::MIN_POSITIVE),
-    ];
-    for (k, range) in settings {
-        build(l, page, 0, with_sauvola(tiles(4, 3, 1), k, range));
-    }
-    l.comment("Sauvola: means that end in one half are rounded up, not to even");
-    let halves = Picture::row(&[0, 1, 2, 3, 253, 254, 254, 255]);
-    build(l, &halves, 0, with_sauvola(tiles(2, 1, 0), 0.0, 128.0));
-    l.comment("Sauvola: offsets to both ends");
-    for offset in [-32_768, -1, 32_512] {
-        build(l, page, 2, with_offset(with_sauvola(tiles(4, 3, 1), 0.2, 128.0), offset));
-    }
-}
-
-pub const TILES: &str =
-    "tile-width tile-height radius contrast-floor method k range offset (method 0 Midrange, 1 Sauvola; k, range and offset as bit patterns)";
-
-pub fn grid() -> List {
-    let head = "Tile grids, call 15: width height stride of the source,";
-    let mut list = List::new("grid", &[head, TILES, "tiles-x tiles-y; thresholds, then skips.", RUST, EXACT]);
-    let l = &mut list;
-    l.comment("document 01's pictures: 0 255 midrange 127, with offsets; Sauvola of 0 200");
-    for (offset, threshold) in [(0, 127), (-200, 0), (200, 255)] {
-        assert_eq!(build(l, &Picture::row(&[0, 255]), 0, with_offset(tiles(16, 16, 1), offset)).to, [threshold]);
-    }
-    for (k, range, threshold) in [(0.2, 128.0, 96), (0.0, f64::from_bits(1), 0)] {
-        assert_eq!(build(l, &Picture::row(&[0, 200]), 0, with_sauvola(tiles(16, 16, 1), k, range)).to, [threshold]);
-    }
-    let page = Picture::new(8, 7, 9, 2, &noise(56, 31));
-    midranges(l, &page);
-    sauvolas(l, &page);
-    list
-}
-
-/// The settings of a reading: element target floor, opening kernel, the grid's, radius k-milli dynamic-range dark light.
-pub type Reading = [u64; 17];
-
-/// Both kernels, and else document 01's settings.
-pub fn kernels(element: u64, opening: u64) -> Reading {
-    [element, 200, 8, opening, 16, 16, 1, 12, 0, 0, 0, 0, 8, 200, 128, 0, 255]
-}
-
-/// Settings with some of their numbers changed.
-fn with(mut settings: Reading, changes: &[(usize, u64)]) -> Reading {
-    changes.iter().for_each(|&(index, value)| settings[index] = value);
-    settings
-}
-
-/// Tiles by themselves, with a contrast floor and a small window.
-fn tiled(settings: Reading, tile_width: u64, tile_height: u64, floor: u64) -> Reading {
-    with(settings, &[(4, tile_width), (5, tile_height), (6, 0), (7, floor), (12, 2)])
-}
-
-/// Light glass with two dark runs on the left, and one value on the right.
-fn half_flat(width: usize, height: usize) -> Vec<u8> {
-    (0..width * height)
-        .map(|i| match (i % width, i / width) {
-            (x, _) if 2 * x >= width => 140,
-            (x, y) => (if (x + y / 2) % 4 < 2 { 40 } else { 160 }) + (5 * x + 3 * y) as u8,
-        })
-        .collect()
-}
-
-/// Dark runs of five samples and light ones of four, then one value.
-fn runs(count: usize) -> Vec<u8> {
-    let run = |i: usize| (if i % 9 < 5 { 50 } else { 170 }) + i as u8;
-    (0..count).map(|i| if i >= 14 { 180 } else { run(i) }).collect()
-}
-
-fn readings(l: &mut List, what: &str, picture: &Picture, stride: usize, tail: usize, settings: &[Reading]) {
-    let settings: Vec<&[u64]> = settings.iter().map(|chosen| &chosen[..]).collect();
-    each(l, what, READING, picture, stride, tail, &settings);
-}
-
-/// The picture has light pixels, dark ones and such that are skipped.
-fn judgements(l: &mut List) {
-    let glass = Picture::new(10, 7, 13, 2, &half_flat(10, 7));
-    l.comment("dark, light and skipped; tiles ragged on both sides");
-    let chosen = tiled(kernels(5, 3), 3, 2, 12);
-    let counts = asked(l, READING, &glass, 12, 3, &chosen).values;
-    assert!(counts.iter().all(|&count| count > 0), "{counts:?}");
-    let others = [tiled(kernels(3, 5), 3, 2, 12), tiled(kernels(7, 3), 4, 5, 12), tiled(kernels(31, 3), 1, 3, 30)];
-    readings(l, "element and opening kernel apart, and exchanged", &glass, 12, 3, &others);
-    let both = [(7, 7), (255, 0), (1, 2)].map(|(dark, light)| with(chosen, &[(15, dark), (16, light)]));
-    readings(l, "one value for dark and light, which the counts still tell apart", &glass, 10, 0, &both);
-    let floor = |floor| with(chosen, &[(7, floor)]);
-    let floors = [floor(0), floor(1), floor(255), with(chosen, &[(6, 1)])];
-    readings(l, "contrast floors at their ends, and a neighbourhood that no tile stands alone in", &glass, 11, 0, &floors);
-    let method = [(8, 1), (9, 0.2f64.to_bits()), (10, 128f64.to_bits())];
-    let offset = |offset: i16| with(with(chosen, &method), &[(11, u64::from(offset as u16))]);
-    let offsets = [offset(-32_768), offset(0), offset(32_512)];
-    readings(l, "the grid's method and offset do not decide", &glass, 10, 1, &offsets);
-    let whole = [with(chosen, &[(12, 1)]), with(chosen, &[(12, 65_536)]), with(chosen, &[(13, 1000), (14, 1)])];
-    readings(l, "windows from the least to the largest, and thresholds above 255", &glass, 10, 0, &whole);
-}
-
-pub const READINGS: &str = "width height stride of both pictures, element target floor opening-kernel,";
-pub const WINDOW: &str = "radius k-milli dynamic-range dark light;";
-
-pub fn reading() -> List {
-    let head = ["Readings, call 19:", READINGS, TILES, WINDOW, "dark light skipped comparisons."];
-    let chain = "The bytes and the first three counts are those of the published Rust, aukilabs/qr-lab at c99d6ca466, whose calls are";
-    let mut list = List::new(
-        "reading",
-        &[&head.join(" "), chain, "made one after the other (rust/vectors/src/chain.rs).", WALK, EXACT],
-    );
-    let l = &mut list;
-    l.comment("document 01's row, and the same with the contrast floor 0");
-    let row = Picture::row(&[0, 200]);
-    let skipped = asked(l, READING, &row, 2, 0, &kernels(3, 3));
-    assert_eq!((skipped.values, skipped.to), (vec![0, 0, 2, 24], vec![255, 255]));
-    assert_eq!(asked(l, READING, &row, 2, 0, &with(kernels(3, 3), &[(7, 0)])).values, [2, 0, 0, 24]);
-    readings(l, "the same row with the Rust's element", &row, 2, 0, &[kernels(31, 3)]);
-    judgements(l);
-    let far = [kernels(u64::MAX, 3), kernels(3, u64::MAX), kernels(9, 5), kernels(13, 3)];
-    let small = far.map(|settings| tiled(settings, 4, 4, 12));
-    readings(l, "a column", &Picture::new(1, 23, 4, 1, &runs(23)), 3, 1, &small);
-    readings(l, "the same as a row", &Picture::new(23, 1, 23, 2, &runs(23)), 25, 2, &small);
-    let flat = [kernels(3, 3), tiled(kernels(3, 3), 2, 2, 0)];
-    readings(l, "black", &Picture::new(5, 3, 6, 0, &[0; 15]), 5, 0, &flat);
-    readings(l, "white", &Picture::new(5, 3, 6, 0, &[255; 15]), 5, 0, &flat);
-    let rough = [kernels(31, 3), kernels(5, 3), tiled(kernels(5, 3), 3, 3, 60), tiled(kernels(9, 5), u64::MAX, 2, 12)];
-    readings(l, "noise", &Picture::new(9, 8, 11, 0, &noise(72, 41)), 9, 2, &rough);
     list
 }

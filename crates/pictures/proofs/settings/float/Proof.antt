@@ -10,4 +10,4 @@ unfolding nanBits
 result c = rw (ne-eqb _ _ (c .if1 .left)) tt
 
 pub float-spec : {M : Type 1} → statement M
-float-spec = tie.close (tie.spec (λ c. search needs) (λ c κs. search needs) (λ c. search needs) result (λ c. search needs))
+float-spec = tie.close (tie.spec (λ c. search needs) (λ c. search needs) (λ c. search needs) result (λ c. search needs))
