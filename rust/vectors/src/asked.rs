@@ -36,7 +36,7 @@ pub const ROW_ALL_SKIP: u64 = 18;
 pub const READING: u64 = 19;
 pub const PROGRAM: u64 = 20;
 
-pub fn division(s: &[u64]) -> BackgroundDivideConfig {
+fn division(s: &[u64]) -> BackgroundDivideConfig {
     BackgroundDivideConfig {
         structuring_element: s[0] as usize,
         target_luma: s[1] as u8,
@@ -45,7 +45,7 @@ pub fn division(s: &[u64]) -> BackgroundDivideConfig {
 }
 
 /// Tile sides, radius, contrast floor, the method with the patterns of its floats, the pattern of the offset.
-pub fn grid(s: &[u64]) -> TileThresholdConfig {
+fn grid(s: &[u64]) -> TileThresholdConfig {
     let (k, dynamic_range) = (f64::from_bits(s[5]), f64::from_bits(s[6]));
     let sauvola = TileThresholdMethod::Sauvola { k, dynamic_range };
     let threshold_offset = s[7] as u16 as i16;
@@ -62,7 +62,7 @@ pub fn grid(s: &[u64]) -> TileThresholdConfig {
 }
 
 /// The Rust overflows at the largest radii: its window is already the whole picture at 65,536.
-pub fn sauvola(s: &[u64]) -> SauvolaConfig {
+fn sauvola(s: &[u64]) -> SauvolaConfig {
     SauvolaConfig {
         radius: s[0].min(65_536) as usize,
         k_milli: s[1] as u32,
@@ -73,7 +73,7 @@ pub fn sauvola(s: &[u64]) -> SauvolaConfig {
 }
 
 /// Element, target and floor, the opening's kernel, the grid's eight, Sauvola's five.
-pub fn reading(s: &[u64]) -> Settings {
+fn reading(s: &[u64]) -> Settings {
     Settings { division: division(s), opening_kernel: s[3] as usize, grid: grid(&s[4..]), sauvola: sauvola(&s[12..]) }
 }
 
@@ -89,14 +89,16 @@ pub fn answer(n: &[u64], from: &[u8], to: Vec<u8>, other: Vec<u8>) -> Answer {
 /// Pixel (x, y) is the byte at y * stride + x; a plane is the rows one after another.
 fn plain(n: &[u64], from: &[u8], mut to: Vec<u8>) -> Answer {
     let [width, height, stride, first, second] = [1, 2, 3, 4, 5].map(|i| n.get(i).map_or(0, |&number| number as usize));
-    let row = first * if height == 1 { 0 } else { stride };
-    let rows = (0..height).map(|y| (y * width + first, y * if height == 1 { 0 } else { stride }));
+    // Of one row the stride says nothing, and may be larger than any memory.
+    let stride = if height == 1 { 0 } else { stride };
+    let (pixel, row) = (|| second * stride + first, || first * stride..first * stride + width);
+    let rows = (0..height).map(|y| (y * width + first, y * stride));
     let mut values = vec![];
     match n[0] {
-        GET => values.push(u64::from(from[second * if height == 1 { 0 } else { stride } + first])),
-        SET => to[second * if height == 1 { 0 } else { stride } + first] = n[6] as u8,
-        ROW => to[..width].copy_from_slice(&from[row..row + width]),
-        ROW_MUT => to[row..row + width].copy_from_slice(&from[..width]),
+        GET => values.push(u64::from(from[pixel()])),
+        SET => to[pixel()] = n[6] as u8,
+        ROW => to[..width].copy_from_slice(&from[row()]),
+        ROW_MUT => to[row()].copy_from_slice(&from[..width]),
         PACK => rows.for_each(|(at, y)| to[at..at + width].copy_from_slice(&from[y..y + width])),
         UNPACK => rows.for_each(|(at, y)| to[y..y + width].copy_from_slice(&from[at..at + width])),
         _ => (),

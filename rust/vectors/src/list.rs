@@ -4,6 +4,7 @@
 //! Slices whose bytes before the call do not stand in the line hold noise.
 
 use crate::asked;
+use crate::picture::noise;
 use std::fmt::Write;
 
 /// The places of the slices among the lengths: a source, a destination, another destination, and the two workspaces.
@@ -30,17 +31,6 @@ pub struct Answer {
     pub values: Vec<u64>,
     pub to: Vec<u8>,
     pub other: Vec<u8>,
-}
-
-/// The noise that crates/pictures fills a slice with.
-pub fn noise(seed: u64, length: u64) -> Vec<u8> {
-    let mut state = (seed as u32).wrapping_mul(2_654_435_761);
-    (0..length)
-        .map(|_| {
-            state = state.wrapping_mul(1_664_525).wrapping_add(1_013_904_223);
-            (state >> 24) as u8
-        })
-        .collect()
 }
 
 #[derive(Default)]
@@ -71,11 +61,12 @@ impl List {
         writeln!(self.text, "# {line}").expect("a string takes every line");
     }
 
-    /// What a slice of the next case holds before the call.
+    /// What a slice of the next case holds before the call: listed bytes, or the noise that crates/pictures makes.
     fn held(&self, line: &Line, slice: usize) -> Vec<u8> {
         let listed = [&line.from, &line.before].get(slice).map_or(&[][..], |bytes| bytes);
         if listed.is_empty() {
-            return noise(8 * (self.cases + 1) + slice as u64, line.lengths[slice]);
+            let seed = (8 * (self.cases + 1) + slice as u64) as u32;
+            return noise(line.lengths[slice] as usize, seed.wrapping_mul(2_654_435_761));
         }
         assert_eq!(listed.len() as u64, line.lengths[slice], "a byte for each place");
         listed.to_vec()
