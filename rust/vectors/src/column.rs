@@ -1,7 +1,6 @@
 //! What the program `column` writes for the picture that stands beside it.
 
-use crate::chain::{read, Settings};
-use crate::picture::{Destination, Picture};
+use crate::chain::Settings;
 use crate::program;
 
 pub const WIDTH: usize = 24;
@@ -16,11 +15,8 @@ pub fn pixels() -> &'static [u8] {
 
 /// The line that answers the picture, and the rows of the destination, '#' for dark.
 pub fn text() -> String {
-    let picture = Picture::packed(WIDTH, HEIGHT, pixels());
-    let settings = Settings::default();
-    let mut destination = Destination::packed(WIDTH, HEIGHT);
-    read(&picture, &mut destination, &settings);
-    let mark = |&value: &u8| if value == settings.sauvola.dark_value { '#' } else { '.' };
-    let rows = destination.bytes.chunks(WIDTH).map(|row| row.iter().map(mark).chain(['\n']).collect::<String>());
-    [program::line(WIDTH, HEIGHT, pixels())].into_iter().chain(rows).collect()
+    let (line, marked) = program::line(WIDTH, HEIGHT, pixels());
+    let mark = |&value: &u8| if value == Settings::default().sauvola.dark_value { '#' } else { '.' };
+    let rows = marked.chunks(WIDTH).map(|row| row.iter().map(mark).chain(['\n']).collect::<String>());
+    [line].into_iter().chain(rows).collect()
 }

@@ -95,11 +95,15 @@ impl List {
         }
     }
 
-    /// An input of the program `reading`, whose answer begins the third slice.
-    pub fn printed(&mut self, line: &Line, number: u64, answer: &str) {
-        let mut other = self.held(line, OTHER);
+    /// An input of the program `reading`, whose answer begins the third slice, and whose picture, if it is one, is
+    /// marked in the second. The number says that both workspaces and the second slice stay as they were.
+    pub fn printed(&mut self, line: &Line, answer: &str, marked: Option<&[u8]>) {
+        let (mut to, mut other) = (self.held(line, TO), self.held(line, OTHER));
+        let pixels = marked.unwrap_or_default();
+        to[..pixels.len()].copy_from_slice(pixels);
         other[..answer.len()].copy_from_slice(answer.as_bytes());
-        self.write(line, number, &[answer.len() as u64], &[], &other);
+        let after = if marked.is_some() && to.len() <= LISTED { &to[..] } else { &[] };
+        self.write(line, u64::from(marked.is_none()), &[answer.len() as u64], after, &other);
     }
 
     fn write(&mut self, line: &Line, number: u64, values: &[u64], after: &[u8], other: &[u8]) {

@@ -1,7 +1,7 @@
 //! Inputs of the program `reading`, good and malformed, and the line that answers each.
 
 use crate::asked;
-use crate::chain::{read, room, Settings};
+use crate::chain::{read, room, Counts, Settings};
 use crate::column;
 use crate::list::{Line, List};
 use crate::picture::{noise, Destination, Picture};
@@ -18,15 +18,15 @@ struct Lent {
 /// What the program lends: enough for 60 by 60 pixels, and 128 bytes for the line.
 const PROGRAM: Lent = Lent { destination: 3600, bytes: 32_432, words: 7522, out: 128 };
 
-/// `left` says that the destination and the workspaces stay as they were.
-fn case(l: &mut List, input: &[u8], lent: Lent, line: &str, left: bool) {
+/// A picture is marked in the destination; where there is none, the destination and the workspaces stay as they were.
+fn case(l: &mut List, input: &[u8], lent: Lent, line: &str, marked: Option<&[u8]>) {
     let lengths = [input.len(), lent.destination, lent.out, lent.bytes, lent.words].map(|length| length as u64);
-    let numbers = vec![asked::PROGRAM, u64::from(left)];
-    l.printed(&Line { numbers, lengths, from: input.to_vec(), before: vec![] }, u64::from(left), line);
+    let numbers = vec![asked::PROGRAM, u64::from(marked.is_none())];
+    l.printed(&Line { numbers, lengths, from: input.to_vec(), before: vec![] }, line, marked);
 }
 
 fn refused(l: &mut List, input: &[u8], lent: Lent, number: u32) {
-    case(l, input, lent, &format!("refused {number}\n"), true);
+    case(l, input, lent, &format!("refused {number}\n"), None);
 }
 
 /// A picture in document 01's form.
@@ -35,17 +35,21 @@ pub fn form(width: usize, height: usize, pixels: &[u8]) -> Vec<u8> {
     [header.as_bytes(), pixels].concat()
 }
 
-/// The line that document 01 has for a picture, from the Rust's chain with the program's settings.
-pub fn line(width: usize, height: usize, pixels: &[u8]) -> String {
+/// The line that document 01 has for a picture, from the Rust's chain with the program's settings, and the marks.
+pub fn line(width: usize, height: usize, pixels: &[u8]) -> (String, Vec<u8>) {
     let picture = Picture::packed(width, height, pixels);
-    let counts = read(&picture, &mut Destination::packed(width, height), &Settings::default());
-    format!("{width} {height} {} {} {} {}\n", counts.dark, counts.light, counts.skipped, counts.comparisons)
+    let mut marked = Destination::packed(width, height);
+    let counts = read(&picture, &mut marked, &Settings::default());
+    let Counts { dark, light, skipped, comparisons } = counts;
+    (format!("{width} {height} {dark} {light} {skipped} {comparisons}\n"), marked.bytes)
 }
 
+/// A picture; of a small one the destination is short enough to be listed.
 fn good(l: &mut List, what: &str, width: usize, height: usize, pixels: &[u8]) -> String {
     l.comment(what);
-    let line = line(width, height, pixels);
-    case(l, &form(width, height, pixels), PROGRAM, &line, false);
+    let (line, marked) = line(width, height, pixels);
+    let destination = if marked.len() < 256 { 256 } else { PROGRAM.destination };
+    case(l, &form(width, height, pixels), Lent { destination, ..PROGRAM }, &line, Some(&marked));
     line
 }
 
@@ -129,20 +133,20 @@ fn short(l: &mut List) {
     let input = form(2, 1, &[0, 200]);
     let (bytes, words) = room(2, 1, &Settings::default().grid);
     let exact = Lent { destination: 2, bytes, words, out: 128 };
-    let answer = line(2, 1, &[0, 200]);
+    let (answer, marked) = line(2, 1, &[0, 200]);
     l.comment("every slice exact, then the destination, the bytes and the words one short");
-    case(l, &input, exact, &answer, false);
+    case(l, &input, exact, &answer, Some(&marked));
     refused(l, &input, Lent { destination: 1, ..exact }, 3);
     refused(l, &input, Lent { bytes: bytes - 1, ..exact }, 8);
     refused(l, &input, Lent { words: words - 1, ..exact }, 8);
     refused(l, &input, Lent { destination: 0, bytes: 0, words: 0, ..exact }, 3);
     l.comment("less than 128 bytes for the line: none is written; the picture is read all the same");
     for out in [0, 13, 127] {
-        case(l, &input, Lent { out, ..exact }, "", false);
-        case(l, b"P5", Lent { out, ..exact }, "", true);
+        case(l, &input, Lent { out, ..exact }, "", Some(&marked));
+        case(l, b"P5", Lent { out, ..exact }, "", None);
     }
     l.comment("more than 128 bytes");
-    case(l, &input, Lent { out: 200, ..exact }, &answer, false);
+    case(l, &input, Lent { out: 200, ..exact }, &answer, Some(&marked));
 }
 
 pub fn list() -> List {
