@@ -1,16 +1,15 @@
 // A case: fills what is lent, calls, and judges the answer and what is left. A line's sections: the call and its
-// numbers; the lengths of the slices, which are from, to, other, bytes and words; the answer; then the bytes of from
-// before the call, of to before it, of to after it and of other after it. A slice whose bytes before are not listed
-// holds noise. No call writes `from`. What is not listed after a call is as before if the call was refused, and is else
-// left open.
+// numbers; the lengths of the slices from, to, other, bytes and words; the answer; then the bytes of from before the
+// call, of to before it, of to after it and of other after it. A slice with no bytes listed before holds noise. No call
+// writes `from`. What is not listed after a call is as before if the call was refused, and is else left open.
 use crate::buffers;
 use crate::buffers::Part;
 use crate::calls;
-use crate::calls::Numbers;
 use crate::numbers;
 use crate::numbers::Reader;
 use crate::reply;
 use crate::reply::Answer;
+use crate::settings::Numbers;
 use std::num::wrapping_add_usize;
 
 // The call, its answer, the seed of its noise, and the parts of the line that list bytes.
@@ -131,8 +130,15 @@ pub fn holds(text: &[u8], at: usize, seed: usize) -> bool {
     let mut call = [0; 24];
     let mut lengths = [0; 5];
     let mut answer = [0; 5];
-    let r = numbers::section(text, numbers::begin(at), &mut call);
-    let r = numbers::section(text, numbers::anew(r), &mut lengths);
-    let r = numbers::section(text, numbers::anew(r), &mut answer);
-    listed(text, numbers::anew(r), seed, call, lengths, answer)
+    let r = numbers::section(text, numbers::begin(at, true), &mut call);
+    let r = numbers::section(text, numbers::begin(r.at, r.good), &mut lengths);
+    let r = numbers::section(text, numbers::begin(r.at, r.good), &mut answer);
+    listed(
+        text,
+        numbers::begin(r.at, r.good),
+        seed,
+        call,
+        lengths,
+        answer,
+    )
 }

@@ -9,24 +9,18 @@ pub struct Reader {
     pub count: usize,
     value: usize,
     open: bool,
-    good: bool,
+    pub good: bool,
 }
 
-pub fn begin(at: usize) -> Reader {
+// The reader at a place, for an array of its own; `good` says that the text had the form so far.
+pub fn begin(at: usize, good: bool) -> Reader {
     Reader {
         at: at,
         count: 0,
         value: 0,
         open: false,
-        good: true,
+        good: good,
     }
-}
-
-// The reader with no number read, for an array of its own.
-pub fn anew(r: Reader) -> Reader {
-    let mut next = r;
-    next.count = 0;
-    next
 }
 
 // The reader behind the number of which it has read a digit.

@@ -1,25 +1,38 @@
-// The settings of a call, from the numbers of its line: an offset is a pattern of 16 bits, a float one of 64.
+// The pictures and the settings of a call, from its numbers. An offset is a pattern of 16 bits, a float one of 64.
 use crate::buffers::byte;
 use image::Geometry;
 use imgproc::grid::SauvolaFloats;
 use imgproc::grid::TileThresholdConfig;
+use imgproc::grid::TileThresholdGrid;
 use imgproc::grid::TileThresholdMethod;
 use imgproc::illumination::BackgroundDivideConfig;
+use imgproc::reading::ReadingConfig;
 use imgproc::threshold::SauvolaConfig;
 
-pub fn geometry(width: usize, height: usize, stride: usize) -> Geometry {
+// As many numbers as a call may have, its own first.
+pub type Numbers = [usize; 24];
+
+pub fn source(f: Numbers) -> Geometry {
     Geometry {
-        width: width,
-        height: height,
-        stride: stride,
+        width: f[1],
+        height: f[2],
+        stride: f[3],
     }
 }
 
-pub fn division(element: usize, target: usize, floor: usize) -> BackgroundDivideConfig {
+pub fn destination(f: Numbers) -> Geometry {
+    Geometry {
+        width: f[4],
+        height: f[5],
+        stride: f[6],
+    }
+}
+
+pub fn division(f: Numbers) -> BackgroundDivideConfig {
     BackgroundDivideConfig {
-        structuring_element: element,
-        target_luma: byte(target),
-        denominator_floor: byte(floor),
+        structuring_element: f[7],
+        target_luma: byte(f[8]),
+        denominator_floor: byte(f[9]),
     }
 }
 
@@ -31,7 +44,7 @@ fn word(value: usize) -> u32 {
     value as u32
 }
 
-pub fn sauvola(radius: usize, k: usize, range: usize, dark: usize, light: usize) -> SauvolaConfig {
+pub fn window(radius: usize, k: usize, range: usize, dark: usize, light: usize) -> SauvolaConfig {
     SauvolaConfig {
         radius: radius,
         k_milli: word(k),
@@ -77,7 +90,7 @@ fn method(kind: usize, k: usize, range: usize) -> TileThresholdMethod {
 }
 
 // Tile sides, neighbourhood radius and contrast floor, the method's kind, k and range, and the offset.
-pub fn grid(s: [usize; 8]) -> TileThresholdConfig {
+fn tiles(s: [usize; 8]) -> TileThresholdConfig {
     TileThresholdConfig {
         tile_width: s[0],
         tile_height: s[1],
@@ -85,5 +98,29 @@ pub fn grid(s: [usize; 8]) -> TileThresholdConfig {
         threshold_offset: offset(s[7]),
         contrast_floor: byte(s[3]),
         method: method(s[4], s[5], s[6]),
+    }
+}
+
+pub fn grid(f: Numbers) -> TileThresholdConfig {
+    tiles([f[4], f[5], f[6], f[7], f[8], f[9], f[10], f[11]])
+}
+
+pub fn reading(f: Numbers) -> ReadingConfig {
+    ReadingConfig {
+        division: division(f),
+        opening_kernel: f[10],
+        grid: tiles([f[11], f[12], f[13], f[14], f[15], f[16], f[17], f[18]]),
+        sauvola: window(f[19], f[20], f[21], f[22], f[23]),
+    }
+}
+
+pub fn built(f: Numbers) -> TileThresholdGrid {
+    TileThresholdGrid {
+        width: f[1],
+        height: f[2],
+        tile_width: f[3],
+        tile_height: f[4],
+        tiles_x: f[5],
+        tiles_y: f[6],
     }
 }

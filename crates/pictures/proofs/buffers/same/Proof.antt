@@ -12,6 +12,5 @@ abbrev μ-loop : tie.MeasureT-loop
 μ-loop «data» numbers part seed right₀ state₀ i₀ right state i = length «data» - i
 
 pub same-spec : {M : Type 1} → statement M
-same-spec =
-    tie.close (tie.spec Inv-loop μ-loop (λ c κs. search needs) (λ c κs. search needs) (λ c. search needs) (λ c κs. search needs) (λ c. search needs)
+same-spec = tie.close (tie.spec Inv-loop μ-loop (λ c κs. search needs) (λ c κs. search needs) (λ c. search needs) (λ c κs. search needs) (λ c. search needs)
     (λ c κs. search needs) (λ c κs. search needs) (λ c. search needs) (λ c. search needs) (λ c. search needs) (λ c. search needs))

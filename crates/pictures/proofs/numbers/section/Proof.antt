@@ -13,6 +13,5 @@ abbrev μ-loop : tie.MeasureT-loop
 μ-loop text out₀ reader₀ at₀ out reader at = length text - at
 
 pub section-spec : {M : Type 1} → statement M
-section-spec =
-    tie.close (tie.spec Inv-loop μ-loop (λ c. search needs) (λ c. search needs) (λ c. search needs) (λ c κs. search needs) (λ c κs. search needs)
+section-spec = tie.close (tie.spec Inv-loop μ-loop (λ c. search needs) (λ c. search needs) (λ c. search needs) (λ c κs. search needs) (λ c κs. search needs)
     (λ c. search needs) (λ c. search needs) (λ c κs. search needs) (λ c. search needs) (λ c. search needs))

@@ -10,6 +10,5 @@ abbrev μ-loop : tie.MeasureT-loop
 μ-loop text score₀ at₀ turns₀ score at turns = turns
 
 pub replay-spec : {M : Type 1} → statement M
-replay-spec =
-    tie.close (tie.spec Inv-loop μ-loop (λ c κs. search needs) (λ c. search needs) (λ c. search needs) (λ c κs. search needs) (λ c κs. search needs)
-    (λ c. search needs) (λ c. search needs) (λ c. search needs) (λ c. search needs))
+replay-spec = tie.close (tie.spec Inv-loop μ-loop (λ c κs. search needs) (λ c. search needs) (λ c. search needs) (λ c κs. search needs)
+    (λ c κs. search needs) (λ c. search needs) (λ c. search needs) (λ c. search needs) (λ c. search needs))
