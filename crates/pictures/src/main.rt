@@ -1,23 +1,14 @@
-// Replays lists of cases against the libraries, and writes a line for each list: its name, how many cases it has, how
-// many came out wrong, and the line of the first of those.
-mod answers;
+// Replays the lists that its arguments name against the libraries, and writes a line for each: its name, how many cases
+// it has, how many came out wrong, and the line of the first of those.
 mod buffers;
-mod cases;
-mod division;
-mod grid;
-mod grid_settings;
-mod listed;
-mod morphology;
+mod calls;
+mod case;
 mod numbers;
-mod operators;
-mod picture;
-mod queries;
-mod reading;
 mod replay;
-mod sauvola;
+mod reply;
+mod settings;
 
 use libc::STDOUT_FILENO;
-use replay::List;
 use replay::Score;
 
 // A list is shorter than this.
@@ -38,7 +29,7 @@ fn report(name: &[u8], score: Score) {
     io::write_all(STDOUT_FILENO, b"\n");
 }
 
-fn run(name: &[u8], list: List) {
+fn run(name: &[u8]) {
     let file = os::open_read(name);
     if file < 0 {
         os::fail(name);
@@ -51,52 +42,20 @@ fn run(name: &[u8], list: List) {
         report(name, replay::unread());
         return;
     }
-    report(name, replay::replay(list, &text[..n]));
+    report(name, replay::replay(&text[..n]));
 }
 
-fn image_refusals() {
-    run(b"layouts.txt", List::Layouts);
-    run(b"places.txt", List::Places);
-    run(b"planes.txt", List::Planes);
-}
-
-fn image_bytes() {
-    run(b"pixels.txt", List::Pixels);
-    run(b"rows.txt", List::Rows);
-    run(b"pack.txt", List::Pack);
-    run(b"unpack.txt", List::Unpack);
-}
-
-fn stored_answers() {
-    run(b"morphology.txt", List::Morphology);
-    run(b"division.txt", List::Division);
-    run(b"sauvola.txt", List::Sauvola);
-}
-
-fn refusals() {
-    run(b"morphology_refusals.txt", List::MorphologyRefusals);
-    run(b"division_refusals.txt", List::DivisionRefusals);
-    run(b"sauvola_refusals.txt", List::SauvolaRefusals);
-}
-
-fn grid_lists() {
-    run(b"grid.txt", List::Grid);
-    run(b"grid_refusals.txt", List::GridRefusals);
-    run(b"queries.txt", List::Queries);
-    run(b"queries_refusals.txt", List::QueriesRefusals);
-}
-
-fn reading_lists() {
-    run(b"reading.txt", List::Reading);
-    run(b"reading_refusals.txt", List::ReadingRefusals);
-    run(b"answers.txt", List::Answers);
+fn named(i: usize) {
+    let mut name = [0u8; 64];
+    let n = os::arg(i, &mut name);
+    run(&name[..n]);
 }
 
 fn main() {
-    image_refusals();
-    image_bytes();
-    stored_answers();
-    refusals();
-    grid_lists();
-    reading_lists();
+    let count = os::arg_count();
+    let mut i = 1;
+    while i < count {
+        named(i);
+        i += 1;
+    }
 }

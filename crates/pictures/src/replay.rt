@@ -1,127 +1,69 @@
-// Replays the cases of a list, and counts those that come out wrong.
-use crate::answers;
-use crate::division;
-use crate::grid;
-use crate::listed;
-use crate::morphology;
+// Replays the cases of a list, and counts those that come out wrong. A malformed line is a wrong case.
+use crate::case;
 use crate::numbers;
-use crate::numbers::Cursor;
-use crate::picture;
-use crate::queries;
-use crate::reading;
-use crate::sauvola;
 use std::num::wrapping_add_usize;
 
-// The lists, in the order in which they are replayed.
-pub enum List {
-    Layouts,
-    Places,
-    Planes,
-    Pixels,
-    Rows,
-    Pack,
-    Unpack,
-    Morphology,
-    Division,
-    Sauvola,
-    MorphologyRefusals,
-    DivisionRefusals,
-    SauvolaRefusals,
-    Grid,
-    GridRefusals,
-    Queries,
-    QueriesRefusals,
-    Reading,
-    ReadingRefusals,
-    Answers,
-}
-
-// How many cases a list has, how many came out wrong, and the line of the first of them.
+// How many lines were read, how many cases they hold, how many came out wrong, and the line of the first of them. The
+// noise of a case has five seeds, and the first is eight above that of the case before it.
 pub struct Score {
+    line: usize,
+    seed: usize,
     pub cases: usize,
     pub wrong: usize,
     pub first: usize,
 }
 
-// The score of a list that is too long to be read.
-pub fn unread() -> Score {
+fn begin() -> Score {
     Score {
-        cases: 0,
-        wrong: 1,
-        first: 0,
-    }
-}
-
-fn one_case(list: List, text: &[u8], c: Cursor) -> Cursor {
-    match list {
-        List::Layouts => picture::layout_case(text, c),
-        List::Places => picture::place_case(text, c),
-        List::Planes => picture::plane_case(text, c),
-        List::Pixels => listed::pixel_case(text, c),
-        List::Rows => listed::row_case(text, c),
-        List::Pack => listed::pack_case(text, c),
-        List::Unpack => listed::unpack_case(text, c),
-        List::Morphology => morphology::stored_case(text, c),
-        List::Division => division::stored_case(text, c),
-        List::Sauvola => sauvola::stored_case(text, c),
-        List::MorphologyRefusals => morphology::refusal_case(text, c),
-        List::DivisionRefusals => division::refusal_case(text, c),
-        List::SauvolaRefusals => sauvola::refusal_case(text, c),
-        List::Grid => grid::stored_case(text, c),
-        List::GridRefusals => grid::refusal_case(text, c),
-        List::Queries => queries::stored_case(text, c),
-        List::QueriesRefusals => queries::refusal_case(text, c),
-        List::Reading => reading::stored_case(text, c),
-        List::ReadingRefusals => reading::refusal_case(text, c),
-        List::Answers => answers::answer_case(text, c),
-    }
-}
-
-fn counted(score: Score) -> Score {
-    Score {
-        cases: wrapping_add_usize(score.cases, 1),
-        wrong: score.wrong,
-        first: score.first,
-    }
-}
-
-// The score with a wrong case at a line.
-fn missed(score: Score, line: usize) -> Score {
-    let mut first = score.first;
-    if first == 0 {
-        first = line;
-    }
-    Score {
-        cases: wrapping_add_usize(score.cases, 1),
-        wrong: wrapping_add_usize(score.wrong, 1),
-        first: first,
-    }
-}
-
-// The score with the case that begins at c.
-fn scored(score: Score, list: List, text: &[u8], c: Cursor) -> Score {
-    if numbers::holds(text, one_case(list, text, c)) {
-        return counted(score);
-    }
-    missed(score, numbers::line_of(text, c.at))
-}
-
-// A malformed line counts as a wrong case.
-pub fn replay(list: List, text: &[u8]) -> Score {
-    let mut score = Score {
+        line: 0,
+        seed: 0,
         cases: 0,
         wrong: 0,
         first: 0,
-    };
-    let mut c = numbers::next_case(text, numbers::begin());
+    }
+}
+
+fn missed(score: Score) -> Score {
+    let mut s = score;
+    s.wrong = wrapping_add_usize(s.wrong, 1);
+    if s.wrong == 1 {
+        s.first = s.line;
+    }
+    s
+}
+
+// The score of a list that is too long to be read.
+pub fn unread() -> Score {
+    missed(begin())
+}
+
+// The score with the line that begins at a place.
+fn scored(score: Score, text: &[u8], at: usize) -> Score {
+    let mut s = score;
+    s.line = wrapping_add_usize(s.line, 1);
+    let byte = numbers::byte_at(text, at);
+    if byte == b'#' || byte == b'\n' {
+        return s;
+    }
+    s.seed = wrapping_add_usize(s.seed, 8);
+    s.cases = wrapping_add_usize(s.cases, 1);
+    if case::holds(text, at, s.seed) {
+        return s;
+    }
+    missed(s)
+}
+
+pub fn replay(text: &[u8]) -> Score {
+    let mut score = begin();
+    let mut at = 0;
     let mut turns = text.len();
     while turns > 0 {
         turns -= 1;
-        if c.at >= text.len() {
-            return score;
+        if at >= text.len() {
+            break;
         }
-        score = scored(score, list, text, c);
-        c = numbers::next_case(text, numbers::next_line(text, c));
+        score = scored(score, text, at);
+        at = numbers::next_line(text, at);
     }
     score
 }

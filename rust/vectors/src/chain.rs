@@ -1,4 +1,4 @@
-//! A reading as the chain of the published Rust's own calls: divide, open, build the grid, binarise, apply the skips.
+//! A reading as the chain of the published Rust's own calls: divide, open, build the grid, binarize, apply the skips.
 
 use crate::picture::{Destination, Picture};
 use crate::walk;
@@ -45,7 +45,7 @@ pub fn room(width: usize, height: usize, grid: &TileThresholdConfig) -> (usize, 
 
 /// A packed picture that a call of the Rust writes.
 fn made(width: usize, height: usize, call: impl FnOnce(&mut Destination)) -> Picture {
-    let mut destination = Destination::new(width, height, width, 0);
+    let mut destination = Destination::packed(width, height);
     call(&mut destination);
     Picture::packed(width, height, &destination.bytes)
 }

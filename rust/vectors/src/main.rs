@@ -1,46 +1,87 @@
-//! Prints one of the lists that crates/pictures replays: the answers of the published Rust, or refusals by document 01.
-//! `column` is what the program of that name writes.
+//! Makes the lists that crates/pictures replays: document 01's refusals, and the answers of the published Rust.
+//! `column` is what the program of that name writes. `check` makes everything again and compares it with what is
+//! stored.
 
-mod answers;
+mod asked;
 mod chain;
 mod column;
-mod division;
-mod grid;
-mod morphology;
+mod conditions;
+mod grids;
+mod hand;
+mod list;
 mod picture;
-mod queries;
-mod reading;
+mod program;
+mod readings;
 mod refusals;
-mod refused_grid;
-mod refused_operators;
-mod refused_reading;
-mod sauvola;
+mod stored;
 mod walk;
 
-use std::env;
+use list::List;
+use std::path::Path;
 use std::process::exit;
+use std::{env, fs};
+
+const LISTS: [(&str, fn() -> List); 20] = [
+    ("layouts", hand::layouts),
+    ("places", hand::places),
+    ("planes", hand::planes),
+    ("pixels", hand::pixels),
+    ("rows", hand::rows),
+    ("pack", hand::pack),
+    ("unpack", hand::unpack),
+    ("morphology", stored::morphology),
+    ("division", stored::division),
+    ("sauvola", stored::sauvola),
+    ("morphology_refusals", refusals::morphology),
+    ("division_refusals", refusals::division),
+    ("sauvola_refusals", refusals::sauvola),
+    ("grid", grids::grid),
+    ("grid_refusals", refusals::grid),
+    ("queries", grids::queries),
+    ("queries_refusals", refusals::queries),
+    ("reading", readings::reading),
+    ("reading_refusals", refusals::reading),
+    ("answers", program::list),
+];
+
+/// Every file that is made, by its place below crates/, and its text.
+fn made() -> Vec<(String, String)> {
+    let lists = LISTS.iter().map(|(name, list)| (format!("pictures/data/{name}.txt"), list().text().to_owned()));
+    let words = LISTS.iter().map(|(name, _)| format!("{name}.txt\n")).collect();
+    let others = [("pictures/args".to_owned(), words), ("column/stdout".to_owned(), column::text())];
+    lists.chain(others).collect()
+}
+
+/// Whether what is stored is what is made, and no list is stored that is not made.
+fn check(crates: &Path) -> bool {
+    let made = made();
+    let differs =
+        |(name, text): &&(String, String)| fs::read(crates.join(name)).ok().as_deref() != Some(text.as_bytes());
+    let mut wrong: Vec<String> = made.iter().filter(differs).map(|(name, _)| name.clone()).collect();
+    let stored = fs::read_dir(crates.join("pictures/data")).expect("the folder of the lists");
+    let stored = stored.map(|file| format!("pictures/data/{}", file.expect("a file").file_name().to_string_lossy()));
+    wrong.extend(stored.filter(|name| made.iter().all(|(known, _)| known != name)));
+    wrong.iter().for_each(|name| eprintln!("vectors: {name} is not what is made"));
+    println!("vectors: {} files made, {} differ from what is stored", made.len(), wrong.len());
+    wrong.is_empty()
+}
 
 fn main() {
-    let name = env::args().nth(1).unwrap_or_default();
-    let list = match name.as_str() {
-        "column" => return print!("{}", column::text()),
-        "morphology" => morphology::list(),
-        "division" => division::list(),
-        "sauvola" => sauvola::list(),
-        "grid" => grid::list(),
-        "morphology_refusals" => refused_operators::morphology(),
-        "division_refusals" => refused_operators::division(),
-        "sauvola_refusals" => refused_operators::sauvola(),
-        "grid_refusals" => refused_grid::list(),
-        "queries" => queries::list(),
-        "queries_refusals" => queries::refusals(),
-        "reading" => reading::list(),
-        "reading_refusals" => refused_reading::list(),
-        "answers" => answers::list(),
+    let words: Vec<String> = env::args().skip(1).collect();
+    match words.iter().map(String::as_str).collect::<Vec<&str>>()[..] {
+        ["check", crates] => exit(i32::from(!check(Path::new(crates)))),
+        ["write", crates] => {
+            made().iter().for_each(|(name, text)| fs::write(Path::new(crates).join(name), text).expect("written"))
+        }
+        ["column"] => print!("{}", column::text()),
+        [name] if LISTS.iter().any(|(known, _)| *known == name) => {
+            let (_, list) = LISTS.iter().find(|(known, _)| *known == name).expect("found above");
+            print!("{}", list().text());
+        }
         _ => {
-            eprintln!("usage: vectors [morphology | division | sauvola | grid | queries | reading][_refusals] | answers | column");
+            let names: Vec<&str> = LISTS.iter().map(|(name, _)| *name).collect();
+            eprintln!("usage: vectors check CRATES | write CRATES | column | {}", names.join(" | "));
             exit(2);
         }
-    };
-    print!("{}", list.text());
+    }
 }
