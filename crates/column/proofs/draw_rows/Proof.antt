@@ -2,6 +2,7 @@
 use Prim.Native.Nat.{ℕ, _+_, _-_, _*_, _≤_}
 use native.Mathlib.Omega.{arith}
 use mathlib.Core.Path.{_≡_, refl, ap, _∙_}
+use mathlib.Core.List.{List}
 use denote.Ref.{now}
 use Rattle.image.specs.Plane.{tabulate, overwritten}
 use Rattle.image.specs.PlaneLaws.{plane-tabulated}
