@@ -88,12 +88,13 @@ struct imgproc_reading_settings {
 };
 #define IMGPROC_READING_DEFAULTS { IMGPROC_DIVISION_DEFAULTS, 3, IMGPROC_GRID_DEFAULTS, IMGPROC_SAUVOLA_DEFAULTS }
 
-/* Settings for a column that is so many pixels wide, between its walls. A number up to a twentieth too small or a
-   quarter too large does as well. They were measured on made pictures of columns 8 to 320 pixels wide and up to a third
-   of the picture. At least 99 % of the liquid was found, and what else was judged dark was at most 1 % of it, where the
-   liquid is 0.4 to 0.85 times as bright as the empty column, the noise at most 2 grey levels, and the light loses no
-   more to the corners than 0.1 in a picture three columns wide, 0.15 in one of six, 0.2 in one of eight and 0.25 in one
-   of twelve. docs/SETTINGS.md has the tables, and what lies outside this range. Nothing of this is proved. */
+/* Settings for a column that is so many pixels wide, between its walls. A number up to a quarter too large does as
+   well; one that is too small does not. They were measured on made pictures of columns 8 to 320 pixels wide and up to a
+   third of the picture. At least 99 % of the liquid was found, and what else was judged dark was at most 1 % of it,
+   where the liquid is 0.4 to 0.85 times as bright as the empty column, which is 0.93 to 0.95 times as bright as the
+   light beside it; where that light is 160 or more in the middle, with noise of at most a hundredth of it, and loses no
+   more to the corners than 0.1 in a picture three to five columns wide, 0.12 from six on, 0.15 from eight and 0.2 from
+   twelve. docs/SETTINGS.md has the tables, and what lies outside this range. Nothing of this is proved. */
 static inline struct imgproc_reading_settings imgproc_settings_for_column(size_t pixels) {
     struct imgproc_reading_settings settings = IMGPROC_READING_DEFAULTS;
     /* No picture has a wider one, and nothing below wraps. */

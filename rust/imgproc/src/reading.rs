@@ -34,8 +34,8 @@ impl Default for ReadingConfig {
 }
 
 impl ReadingConfig {
-    /// Settings for a column that is so many pixels wide, between its walls. A number that is up to a twentieth too
-    /// small or a quarter too large does as well.
+    /// Settings for a column that is so many pixels wide, between its walls. A number up to a quarter too large does as
+    /// well; one that is too small does not.
     ///
     /// They were measured on made pictures of columns 8 to 320 pixels wide and up to a third of the picture, with at
     /// least 250 pixels of liquid. At least 99 % of the liquid was found, and what else was judged dark was at most 1 %
@@ -43,10 +43,10 @@ impl ReadingConfig {
     ///
     /// - the liquid is 0.4 to 0.85 times as bright as the empty column, which is 0.93 to 0.95 times as bright as the
     ///   light beside it,
-    /// - that light is 160 or more in the middle of the picture, with noise of a standard deviation of up to 2 grey
-    ///   levels,
-    /// - and loses no more to the corners than 0.1 in a picture three columns wide, 0.15 in one of six, 0.2 in one of
-    ///   eight and 0.25 in one of twelve.
+    /// - that light is 160 or more in the middle of the picture, with noise of a standard deviation of at most a
+    ///   hundredth of it,
+    /// - and loses no more to the corners than 0.1 in a picture three to five columns wide, 0.12 from six on, 0.15 from
+    ///   eight and 0.2 from twelve.
     ///
     /// Beyond that dark corners are taken for liquid, and weak liquid is lost. docs/SETTINGS.md has the tables. Nothing
     /// of this is proved.

@@ -1,5 +1,5 @@
 //! Makes pictures of columns, reads them, and prints how much of the liquid is found and how much else is taken for it,
-//! as the tables of docs/SETTINGS.md. `settings short` reads few pictures, all in the range that the page promises, and
+//! as the tables of docs/SETTINGS.md. `settings short` reads small pictures at the corners of the page's range, and
 //! fails where one is read badly.
 
 mod measure;
@@ -8,16 +8,17 @@ mod scene;
 
 use imgproc::reading::ReadingConfig;
 use measure::{measure, Score};
-use rng::Rng;
 use scene::Scene;
 use std::process::exit;
 
 const LIQUIDS: [f64; 5] = [0.4, 0.55, 0.7, 0.8, 0.85];
 const LEVELS: [f64; 3] = [0.2, 0.5, 0.8];
 /// How many columns wide a picture of the range is, and the largest loss of light to its corners.
-const PICTURES: [(usize, f64); 4] = [(3, 0.1), (6, 0.15), (8, 0.2), (12, 0.25)];
-/// The largest noise of the range, in grey levels.
-const NOISE: f64 = 2.0;
+const PICTURES: [(usize, f64); 4] = [(3, 0.1), (6, 0.12), (8, 0.15), (12, 0.2)];
+/// The largest noise of the range, over the light in the middle.
+const NOISE: f64 = 0.01;
+/// The widest picture that is made: a wider one takes long to make and to read.
+const WIDEST: usize = 2000;
 
 /// The pictures of the range for one column and one liquid.
 fn range(column: usize, liquid: f64) -> Vec<Scene> {
@@ -26,49 +27,59 @@ fn range(column: usize, liquid: f64) -> Vec<Scene> {
         for level in LEVELS {
             for noise in [0.0, NOISE] {
                 let seed = (1000 * column + scenes.len()) as u64;
-                scenes.push(Scene { liquid, level, noise, falloff, seed, ..Scene::new(column, times) });
+                let scene = Scene { liquid, level, falloff, seed, ..Scene::new(column, times) };
+                scenes.push(Scene { noise: noise * scene.light, ..scene });
             }
         }
     }
-    // A wider picture takes long to make and to read.
-    scenes.retain(|scene| scene.width <= 2000);
+    scenes.retain(|scene| scene.width <= WIDEST);
     scenes
 }
 
-/// A picture from anywhere in the range, and the width that its column is taken for.
-fn drawn(rng: &mut Rng) -> (Scene, usize) {
-    let column = 8.0 * (320.0f64 / 8.0).powf(rng.unit());
-    let most = PICTURES.iter().take_while(|(times, _)| (column as usize) * times <= 2000).count();
-    let (times, falloff) = PICTURES[((most as f64) * rng.unit()) as usize];
-    let liquid = rng.between(0.4, 0.85);
-    let weak = liquid > 0.8;
-    let scene = Scene {
-        light: rng.between(if weak { 160.0 } else { 80.0 }, 240.0),
-        empty: rng.between(0.93, if weak { 0.95 } else { 1.0 }),
-        liquid,
-        level: rng.between(0.2, 0.8),
-        noise: rng.between(0.0, NOISE),
-        falloff: rng.between(0.0, falloff),
-        seed: (rng.unit() * 1e9) as u64,
-        ..Scene::new(column as usize, times)
-    };
-    (scene, (scene.column as f64 * rng.between(0.95, 1.25)).round() as usize)
+/// The pictures at the corners of the range, where each number is at one of its limits, and the width that each column
+/// is taken for.
+fn corners(columns: [usize; 4], widest: usize, seed: u64) -> Vec<(Scene, usize)> {
+    let mut scenes = Vec::new();
+    for column in columns {
+        for (times, falloff) in PICTURES {
+            for (liquid, dimmest, clearest) in [(0.4, 80.0, 1.0), (0.8, 80.0, 1.0), (0.85, 160.0, 0.95)] {
+                for bits in 0..32 {
+                    let pick = |bit: u32, low: f64, high: f64| if bits >> bit & 1 == 0 { low } else { high };
+                    let light = pick(0, dimmest, 240.0);
+                    let scene = Scene {
+                        light,
+                        empty: pick(1, 0.93, clearest),
+                        liquid,
+                        level: pick(2, LEVELS[0], LEVELS[2]),
+                        noise: pick(3, 0.0, NOISE * light),
+                        falloff,
+                        seed: seed + scenes.len() as u64,
+                        ..Scene::new(column, times)
+                    };
+                    scenes.push((scene, (column as f64 * pick(4, 1.0, 1.25)).round() as usize));
+                }
+            }
+        }
+    }
+    scenes.retain(|(scene, _)| scene.width <= widest);
+    scenes
 }
 
-/// Reads pictures from anywhere in the range.
-fn at_random(count: usize) {
-    let mut rng = Rng::new(7);
-    let (mut good, mut worst) = (0, Score::BEST);
-    for _ in 0..count {
-        let (scene, taken) = drawn(&mut rng);
-        let score = measure(&scene, &ReadingConfig::for_column(taken));
-        good += usize::from(score.good());
-        worst = worst.worse(score);
+/// Reads the corners of the range: with the seeds with which its limits were chosen, then with seeds and columns that
+/// chose nothing.
+fn at_corners() {
+    println!("\nAt the corners of the range:\n");
+    let (few, others) = ([8, 20, 56, 112], [11, 33, 160, 320]);
+    let sets = [("chosen with", few, 900_000), ("held out", few, 31_000_000), ("held out", others, 55_000_000)];
+    for (what, columns, seed) in sets {
+        let scenes = corners(columns, 1344, seed);
+        let scores = scenes.iter().map(|(scene, taken)| measure(scene, &ReadingConfig::for_column(*taken)));
+        let scores: Vec<Score> = scores.collect();
+        let good = scores.iter().filter(|score| score.good()).count();
+        let worst = scores.iter().fold(Score::BEST, |worst, &score| worst.worse(score));
+        let (found, wrong) = (100.0 * worst.found, 100.0 * worst.wrong);
+        println!("{what}: {good} of {} are read well; at worst {found:.1} found and {wrong:.1} wrong", scenes.len());
     }
-    let (found, wrong) = (100.0 * worst.found, 100.0 * worst.wrong);
-    println!(
-        "\nDrawn from the range: {good} of {count} are read well; the worst {found:.1} found and {wrong:.1} wrong."
-    );
 }
 
 fn worst(scenes: &[Scene], config: &ReadingConfig) -> Score {
@@ -163,7 +174,7 @@ fn tables() {
     by_width("Defaults, found / wrong:", &widths[..7], defaults);
     by_width("for_column, found / wrong:", &widths, rule);
     empty_columns();
-    at_random(1000);
+    at_corners();
     let liquids = changes("liquid", LIQUIDS, |scene, liquid| scene.liquid = liquid);
     let widths = changes("column", [8.0, 20.0, 56.0], |scene, column| {
         let times = scene.width / scene.column;
@@ -203,20 +214,15 @@ fn tables() {
 }
 
 fn short() {
-    let mut count = 0;
-    for column in [8, 14, 33, 64] {
-        for liquid in LIQUIDS {
-            for scene in range(column, liquid).into_iter().filter(|scene| scene.width <= 400) {
-                let score = measure(&scene, &rule(&scene));
-                if !score.good() {
-                    println!("settings: {scene:?} is read badly: {score:?}");
-                    exit(1);
-                }
-                count += 1;
-            }
+    let scenes = corners([8, 14, 33, 64], 400, 1);
+    for (scene, taken) in &scenes {
+        let score = measure(scene, &ReadingConfig::for_column(*taken));
+        if !score.good() {
+            println!("settings: {scene:?} is read badly: {score:?}");
+            exit(1);
         }
     }
-    println!("settings: {count} pictures of columns are read as docs/SETTINGS.md says");
+    println!("settings: {} pictures of columns are read as docs/SETTINGS.md says", scenes.len());
 }
 
 fn main() {

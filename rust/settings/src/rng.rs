@@ -20,11 +20,6 @@ impl Rng {
         (self.next() >> 11) as f64 / (1u64 << 53) as f64
     }
 
-    /// From a up to b.
-    pub fn between(&mut self, a: f64, b: f64) -> f64 {
-        a + (b - a) * self.unit()
-    }
-
     /// About normal, of mean 0 and deviation 1: the sum of twelve 16-bit parts.
     pub fn normal(&mut self) -> f64 {
         let mut sum = 0.0;
