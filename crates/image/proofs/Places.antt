@@ -11,9 +11,8 @@ use Rattle.image.specs.declared.Geometry.{Geometry}
 use Rattle.image.specs.declared.LumaError.{LumaError}
 use Rattle.image.specs.declared.Layout.{Layout}
 use Rattle.image.specs.declared.Layout.the-variants.{Valid, Invalid}
-use Rattle.image.specs.declared.Pixel.the-variants.{Value, Refused}
-use Rattle.image.specs.declared.Written.the-variants.{Done, Refused as Written·Refused}
-use Rattle.image.specs.Layout.{pixelLayout, rowLayout, refusalOf}
+use Rattle.image.specs.Answers.{accepted, refused, bare}
+use Rattle.image.specs.Layout.{numberOf, pixelLayout, rowLayout, refusalOf}
 use Rattle.image.specs.LayoutLaws.{row-within, row-inside, pixel-inside}
 use Rattle.image.specs.Pixel.{valueIn, writtenIn, bytesIn, Sets}
 use Rattle.image.specs.Plane.{pixel, part}
@@ -35,17 +34,17 @@ module _ (len : ℕ) (g : Geometry) {v : Geometry} {l : Layout} where
 
 module _ (d : List ℕ) (g : Geometry) {l : Layout} where
   module _ (x y : ℕ) (is : l ≡ pixelLayout (length d) g x y) where
-    pub value-refused : {e r : LumaError} → l ≡ Invalid e → r ≡ refusalOf l → Refused r ≡ valueIn (pixelLayout (length d) g x y) d x y
-    value-refused i q = ap Refused (q ∙ ap refusalOf i) ∙ ap (λ (k : Layout). valueIn k d x y) (sym i ∙ is)
+    pub value-refused : {e r : LumaError} → l ≡ Invalid e → r ≡ refusalOf l → refused (numberOf r) ≡ valueIn (pixelLayout (length d) g x y) d x y
+    value-refused i q = ap (λ (k : LumaError). refused (numberOf k)) (q ∙ ap refusalOf i) ∙ ap (λ (k : Layout). valueIn k d x y) (sym i ∙ is)
 
-    pub value-found : {v : Geometry} → l ≡ Valid v → Value (pixel d (v .stride) x y) ≡ valueIn (pixelLayout (length d) g x y) d x y
+    pub value-found : {v : Geometry} → l ≡ Valid v → accepted (pixel d (v .stride) x y) ≡ valueIn (pixelLayout (length d) g x y) d x y
     value-found i = ap (λ (k : Layout). valueIn k d x y) (sym i ∙ is)
 
-    pub set-refused : (b : ℕ) {e r : LumaError} → l ≡ Invalid e → r ≡ refusalOf l → Sets d g x y b (Written·Refused r) d
+    pub set-refused : (b : ℕ) {e r : LumaError} → l ≡ Invalid e → r ≡ refusalOf l → Sets d g x y b (refused (numberOf r)) d
     set-refused b i q =
-        record { answers = ap Written·Refused (q ∙ ap refusalOf i) ∙ ap writtenIn (sym i ∙ is); leaves = ap (λ (k : Layout). bytesIn k d x y b) (sym i ∙ is) }
+        record { answers = ap (λ (k : LumaError). refused (numberOf k)) (q ∙ ap refusalOf i) ∙ ap writtenIn (sym i ∙ is); leaves = ap (λ (k : Layout). bytesIn k d x y b) (sym i ∙ is) }
 
-    pub set-done : (b : ℕ) {v : Geometry} → l ≡ Valid v → Sets d g x y b Done (set d (y * v .stride + x) b)
+    pub set-done : (b : ℕ) {v : Geometry} → l ≡ Valid v → Sets d g x y b (accepted bare) (set d (y * v .stride + x) b)
     set-done b i = record { answers = ap writtenIn (sym i ∙ is); leaves = ap (λ (k : Layout). bytesIn k d x y b) (sym i ∙ is) }
 
 -- the part that is handed out, by its bytes and its place

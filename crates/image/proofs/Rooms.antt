@@ -9,15 +9,14 @@ use Rattle.image.specs.declared.Geometry.{Geometry}
 use Rattle.image.specs.declared.LumaError.{LumaError}
 use Rattle.image.specs.declared.Layout.{Layout}
 use Rattle.image.specs.declared.Layout.the-variants.{Valid, Invalid}
-use Rattle.image.specs.declared.Copied.{Copied}
-use Rattle.image.specs.declared.Copied.the-variants.{Done, Refused, WorkspaceTooSmall}
-use Rattle.image.specs.Layout.{Kept, layoutOf, refusalOf}
+use Rattle.image.specs.Answers.{Answer, accepted, refused, Bare, bare}
+use Rattle.image.specs.Layout.{Kept, layoutOf, numberOf, refusalOf}
 use Rattle.image.specs.LayoutLaws.{kept-as, area-small}
-use Rattle.image.specs.Copy.{copiedOf, packedIn, unpackedIn, Packs, Unpacks}
+use Rattle.image.specs.Copy.{copiedIn, packedIn, unpackedIn, Packs, Unpacks}
 
 module _ (len : ℕ) (g : Geometry) (at room : ℕ) {l : Layout} (is : l ≡ layoutOf len g) where
-  pub copied-refused : {e r : LumaError} → l ≡ Invalid e → r ≡ refusalOf l → Refused r ≡ copiedOf (layoutOf len g) at room
-  copied-refused i q = ap Refused (q ∙ ap refusalOf i) ∙ ap (λ (k : Layout). copiedOf k at room) (sym i ∙ is)
+  pub copied-refused : {e r : LumaError} → l ≡ Invalid e → r ≡ refusalOf l → refused (numberOf r) ≡ copiedIn (layoutOf len g) at room
+  copied-refused i q = ap (λ (k : LumaError). refused (numberOf k)) (q ∙ ap refusalOf i) ∙ ap (λ (k : Layout). copiedIn k at room) (sym i ∙ is)
 
   module _ {v : Geometry} (i : l ≡ Valid v) where
     pub kept-here : Kept len v
@@ -29,22 +28,22 @@ module _ (len : ℕ) (g : Geometry) (at room : ℕ) {l : Layout} (is : l ≡ lay
     pub area-fits : v .width * v .height < 18446744073709551616
     area-fits = omega (arith, area-small kept-here)
 
-    there : copiedOf (Valid v) at room ≡ copiedOf (layoutOf len g) at room
-    there = ap (λ (k : Layout). copiedOf k at room) (sym i ∙ is)
+    there : copiedIn (Valid v) at room ≡ copiedIn (layoutOf len g) at room
+    there = ap (λ (k : Layout). copiedIn k at room) (sym i ∙ is)
 
-    pub copied-short : room < at + v .width * v .height → WorkspaceTooSmall ≡ copiedOf (layoutOf len g) at room
+    pub copied-short : room < at + v .width * v .height → refused 8 ≡ copiedIn (layoutOf len g) at room
     copied-short t = sym (rw (lt-ltb room (at + v .width * v .height) t)) ∙ there
 
-    pub copied-done : at + v .width * v .height ≤ room → Done ≡ copiedOf (layoutOf len g) at room
+    pub copied-done : at + v .width * v .height ≤ room → accepted bare ≡ copiedIn (layoutOf len g) at room
     copied-done t = sym (rw (le-ltb room (at + v .width * v .height) t)) ∙ there
 
 -- a call that gives the right answer and leaves what that answer says keeps its contract
-pub packs : (src : List ℕ) (g : Geometry) (at : ℕ) (before : List ℕ) {answer : Copied} {after : List ℕ}
-    → answer ≡ copiedOf (layoutOf (length src) g) at (length before)
+pub packs : (src : List ℕ) (g : Geometry) (at : ℕ) (before : List ℕ) {answer : Answer Bare} {after : List ℕ}
+    → answer ≡ copiedIn (layoutOf (length src) g) at (length before)
     → after ≡ packedIn answer g src at before → Packs src g at before answer after
-packs src g at before e f = record { answers = e; leaves = f ∙ ap (λ (k : Copied). packedIn k g src at before) e }
+packs src g at before e f = record { answers = e; leaves = f ∙ ap (λ (k : Answer Bare). packedIn k g src at before) e }
 
-pub unpacks : (ws : List ℕ) (at : ℕ) (before : List ℕ) (g : Geometry) {answer : Copied} {after : List ℕ}
-    → answer ≡ copiedOf (layoutOf (length before) g) at (length ws)
+pub unpacks : (ws : List ℕ) (at : ℕ) (before : List ℕ) (g : Geometry) {answer : Answer Bare} {after : List ℕ}
+    → answer ≡ copiedIn (layoutOf (length before) g) at (length ws)
     → after ≡ unpackedIn answer g ws at before → Unpacks ws at before g answer after
-unpacks ws at before g e f = record { answers = e; leaves = f ∙ ap (λ (k : Copied). unpackedIn k g ws at before) e }
+unpacks ws at before g e f = record { answers = e; leaves = f ∙ ap (λ (k : Answer Bare). unpackedIn k g ws at before) e }

@@ -1,6 +1,7 @@
 -- An answer in document 01's numbers, and the list of conditions that decides it. Definitions only.
 use Prim.Native.Nat.{ℕ}
-use mathlib.Core.Bool.{Bool}
+use mathlib.Core.Bool.{Bool, cond}
+use mathlib.Core.List.{List, [], _∷_}
 
 -- an answer: accepted with its values, or refused with a number
 pub data Answer (A : Type 0) : Type 0 where
@@ -25,3 +26,13 @@ valuesOut (refused n) held = held
 pub record Condition (Refusal : Type 0) : Type 0 where
   pub fits : Bool
   pub refusal : Refusal
+
+-- the same conditions with the refusals' numbers
+abbrev pub numbered : {K : Type 0} → (K → ℕ) → List (Condition K) → List (Condition ℕ)
+numbered number [] = []
+numbered number (c ∷ cs) = record { fits = c .fits; refusal = number (c .refusal) } ∷ numbered number cs
+
+-- the answer to a list of numbered conditions: refused with the number of the first that fits, else accepted with its values
+unfoldable pub answerTo : {A : Type 0} → List (Condition ℕ) → A → Answer A
+answerTo [] v = accepted v
+answerTo (c ∷ cs) v = cond (c .fits) (refused (c .refusal)) (answerTo cs v)

@@ -7,23 +7,22 @@ use native.Mathlib.Omega.{arith}
 use lib.ListN.{length}
 use borrow.Author.Tests.{le-ltb}
 use Rattle.image.specs.declared.Geometry.{Geometry}
-use Rattle.image.specs.declared.Copied.{Copied}
-use Rattle.image.specs.declared.Copied.the-variants.{Done}
+use Rattle.image.specs.Answers.{Answer, accepted, Bare, bare}
 use Rattle.image.specs.Layout.{Kept, layoutOf}
 use Rattle.image.specs.LayoutLaws.{kept-valid}
 use Rattle.image.specs.Plane.{picture, paintedOn, part, overwritten}
 use Rattle.image.specs.PlaneLaws.{length-overwritten, part-overwritten}
 use Rattle.image.specs.Views.{length-picture}
-use Rattle.image.specs.Copy.{copiedOf, packedIn, unpackedIn, Packs, Unpacks}
+use Rattle.image.specs.Copy.{copiedIn, packedIn, unpackedIn, Packs, Unpacks}
 
 done : (len : ℕ) (g : Geometry) (at room : ℕ) → Kept len g → at + g .width * g .height ≤ room
-    → copiedOf (layoutOf len g) at room ≡ Done
+    → copiedIn (layoutOf len g) at room ≡ accepted bare
 done len g at room k l = rw (kept-valid k, le-ltb room (at + g .width * g .height) l)
 
-module _ {src : List ℕ} {g : Geometry} {at : ℕ} {ws ws′ : List ℕ} {r : Copied}
+module _ {src : List ℕ} {g : Geometry} {at : ℕ} {ws ws′ : List ℕ} {r : Answer Bare}
     (k : Kept (length src) g) (l : at + g .width * g .height ≤ length ws) (p : Packs src g at ws r ws′) where
   pub packs-done : ws′ ≡ overwritten at (picture src g) ws
-  packs-done = p .leaves ∙ ap (λ (c : Copied). packedIn c g src at ws) (done (length src) g at (length ws) k l)
+  packs-done = p .leaves ∙ ap (λ (c : Answer Bare). packedIn c g src at ws) (done (length src) g at (length ws) k l)
 
   -- the plane that was packed, and the workspace's length
   pub packs-plane : (length ws′ ≡ length ws) × (part at (g .width * g .height) ws′ ≡ picture src g)
@@ -35,8 +34,8 @@ module _ {src : List ℕ} {g : Geometry} {at : ℕ} {ws ws′ : List ℕ} {r : C
       )
 
 -- the destination that was painted
-pub unpacks-done : {ws : List ℕ} {at : ℕ} {dst dst′ : List ℕ} {g : Geometry} {r : Copied}
+pub unpacks-done : {ws : List ℕ} {at : ℕ} {dst dst′ : List ℕ} {g : Geometry} {r : Answer Bare}
     → Kept (length dst) g → at + g .width * g .height ≤ length ws → Unpacks ws at dst g r dst′
     → dst′ ≡ paintedOn dst g (part at (g .width * g .height) ws)
 unpacks-done {ws} {at} {dst} {dst′} {g} k l p =
-    p .leaves ∙ ap (λ (c : Copied). unpackedIn c g ws at dst) (done (length dst) g at (length ws) k l)
+    p .leaves ∙ ap (λ (c : Answer Bare). unpackedIn c g ws at dst) (done (length dst) g at (length ws) k l)

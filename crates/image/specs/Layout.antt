@@ -67,15 +67,10 @@ numberOf BufferTooSmall = 3
 numberOf SideTooLarge = 4
 numberOf OutsidePicture = 9
 
--- a layout's answer: the geometry, or the number of the refusal
+-- what `Layout` says: the geometry, or the number of the refusal
 abbrev pub layoutAnswer : Layout → Answer Geometry
 layoutAnswer (Valid g) = accepted g
 layoutAnswer (Invalid e) = refused (numberOf e)
-
--- the number of a layout's refusal, and 0 of a valid one
-abbrev pub layoutNumber : Layout → ℕ
-layoutNumber (Valid g) = 0
-layoutNumber (Invalid e) = numberOf e
 
 -- what a valid layout says of its numbers
 pub record Kept (len : ℕ) (g : Geometry) : Type 0 where

@@ -4,13 +4,19 @@ use mathlib.Core.Bool.{cond}
 use mathlib.Core.List.{List, [], _∷_}
 use Prim.Native.Nat.{ℕ, suc, _+_}
 use lib.Dec.{eqb}
-use Rattle.image.specs.Layout.{sideLimit, layoutOf, pixelLayout, rowLayout, layoutNumber}
+use Rattle.image.specs.declared.Layout.{Layout}
+use Rattle.image.specs.Answers.{answerNumber}
+use Rattle.image.specs.Layout.{sideLimit, layoutOf, layoutAnswer, pixelLayout, rowLayout}
+
+-- the number of a layout, and 0 of a valid one
+abbrev number : Layout → ℕ
+number l = answerNumber (layoutAnswer l)
 
 -- the layout of a slice of len bytes
 abbrev pub layout : ℕ → ℕ → ℕ → ℕ → ℕ
 unfolding layoutOf
 layout len width height stride =
-    layoutNumber (layoutOf len (record { width = width; height = height; stride = stride }))
+    number (layoutOf len (record { width = width; height = height; stride = stride }))
 
 infix 10 _gives_
 -- a worked layout: what is computed, and the number that is right
@@ -41,10 +47,10 @@ layouts =
     (layout sideLimit sideLimit 1 sideLimit gives 0) ∷
     (layout (sideLimit + 1) 1 (sideLimit + 1) 1 gives 4) ∷
     -- outside a layout that is valid, and of one that is not
-    (layoutNumber (pixelLayout 6 (record { width = 2; height = 2; stride = 4 }) 1 1) gives 0) ∷
-    (layoutNumber (pixelLayout 6 (record { width = 2; height = 2; stride = 4 }) 2 0) gives 9) ∷
-    (layoutNumber (pixelLayout 6 (record { width = 2; height = 2; stride = 4 }) 0 2) gives 9) ∷
-    (layoutNumber (rowLayout 5 (record { width = 2; height = 2; stride = 4 }) 7) gives 3) ∷
+    (number (pixelLayout 6 (record { width = 2; height = 2; stride = 4 }) 1 1) gives 0) ∷
+    (number (pixelLayout 6 (record { width = 2; height = 2; stride = 4 }) 2 0) gives 9) ∷
+    (number (pixelLayout 6 (record { width = 2; height = 2; stride = 4 }) 0 2) gives 9) ∷
+    (number (rowLayout 5 (record { width = 2; height = 2; stride = 4 }) 7) gives 3) ∷
     []
 
 pub layouts-hold : wrong 1 layouts ≡ []

@@ -5,6 +5,7 @@ pub mod Plane
 pub mod Pixel
 pub mod Row
 pub mod Copy
+pub mod RefusedExactly
 pub mod Layouts
 pub mod LayoutLaws
 pub mod PlaneLaws

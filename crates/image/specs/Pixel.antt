@@ -10,18 +10,29 @@ use Rattle.image.specs.declared.Pixel.{Pixel}
 use Rattle.image.specs.declared.Pixel.the-variants.{Value, Refused}
 use Rattle.image.specs.declared.Written.{Written}
 use Rattle.image.specs.declared.Written.the-variants.{Done, Refused as Written·Refused}
-use Rattle.image.specs.Layout.{pixelLayout}
+use Rattle.image.specs.Answers.{Answer, accepted, refused, Bare, bare}
+use Rattle.image.specs.Layout.{numberOf, pixelLayout}
 use Rattle.image.specs.Plane.{pixel}
 
+-- what `Pixel` says: the pixel, or the number of the refusal
+abbrev pub pixelAnswer : Pixel → Answer ℕ
+pixelAnswer (Value v) = accepted v
+pixelAnswer (Refused e) = refused (numberOf e)
+
+-- what `Written` says: a bare success, or the number of the refusal
+abbrev pub writtenAnswer : Written → Answer Bare
+writtenAnswer Done = accepted bare
+writtenAnswer (Written·Refused e) = refused (numberOf e)
+
 -- the pixel, or the refusal
-abbrev pub valueIn : Layout → List ℕ → ℕ → ℕ → Pixel
-valueIn (Valid g) d x y = Value (pixel d (g .stride) x y)
-valueIn (Invalid e) d x y = Refused e
+abbrev pub valueIn : Layout → List ℕ → ℕ → ℕ → Answer ℕ
+valueIn (Valid g) d x y = accepted (pixel d (g .stride) x y)
+valueIn (Invalid e) d x y = refused (numberOf e)
 
 -- the answer of a write
-abbrev pub writtenIn : Layout → Written
-writtenIn (Valid g) = Done
-writtenIn (Invalid e) = Written·Refused e
+abbrev pub writtenIn : Layout → Answer Bare
+writtenIn (Valid g) = accepted bare
+writtenIn (Invalid e) = refused (numberOf e)
 
 -- the bytes after a write: the pixel's byte replaced, or nothing
 abbrev pub bytesIn : Layout → List ℕ → ℕ → ℕ → ℕ → List ℕ
@@ -29,6 +40,6 @@ bytesIn (Valid g) d x y v = set d (y * g .stride + x) v
 bytesIn (Invalid e) d x y v = d
 
 -- the contract of a write of v at (x, y): the bytes before, the answer and the bytes after
-pub record Sets (before : List ℕ) (g : Geometry) (x y v : ℕ) (answer : Written) (after : List ℕ) : Type 0 where
+pub record Sets (before : List ℕ) (g : Geometry) (x y v : ℕ) (answer : Answer Bare) (after : List ℕ) : Type 0 where
   pub answers : answer ≡ writtenIn (pixelLayout (length before) g x y)
   pub leaves : after ≡ bytesIn (pixelLayout (length before) g x y) before x y v

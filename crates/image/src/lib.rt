@@ -3,10 +3,11 @@
 ghost use mathlib.Core.Path.{_≡_};
 ghost use Prim.Native.Nat.{_+_, _*_, _≤_};
 ghost use lib.ListN.{length};
-ghost use Rattle.image.specs.Layout.{layoutOf, pixelLayout, rowLayout, refusalOf, numberOf, layoutNumber, Kept};
-ghost use Rattle.image.specs.Pixel.{valueIn, Sets};
+ghost use Rattle.image.specs.Layout.{layoutOf, pixelLayout, rowLayout, refusalOf, numberOf, layoutAnswer, Kept};
+ghost use Rattle.image.specs.Pixel.{pixelAnswer, writtenAnswer, valueIn, Sets};
 ghost use Rattle.image.specs.Row.{Hands};
-ghost use Rattle.image.specs.Copy.{Packs, Unpacks, copiedNumber};
+ghost use Rattle.image.specs.Copy.{copiedAnswer, Packs, Unpacks};
+ghost use Rattle.image.specs.Answers.{answerNumber};
 ghost use Rattle.image.specs.Plane.{picture, paintedOn, part, overwritten};
 
 // The largest side of a picture.
@@ -103,7 +104,7 @@ pub fn number(error: LumaError) -> u32
 
 // The number of a layout's refusal, and 0 of a valid one.
 pub fn layout_number(layout: Layout) -> u32
-    ensures { λ r. ⌜ r ≡ layoutNumber layout ⌝ }
+    ensures { λ r. ⌜ r ≡ answerNumber (layoutAnswer layout) ⌝ }
 {
     match layout {
         Layout::Invalid(error) => number(error),
@@ -144,7 +145,7 @@ pub fn check_row(len: usize, geometry: Geometry, y: usize) -> Layout
 
 // Pixel (x, y).
 pub fn get(data: &[u8], geometry: Geometry, x: usize, y: usize) -> Pixel
-    ensures { λ r. ⌜ r ≡ valueIn (pixelLayout (length (now («data» .entry))) geometry x y) (now («data» .entry)) x y ⌝ }
+    ensures { λ r. ⌜ pixelAnswer r ≡ valueIn (pixelLayout (length (now («data» .entry))) geometry x y) (now («data» .entry)) x y ⌝ }
 {
     let layout = check_pixel(data.len(), geometry, x, y);
     let Layout::Valid(g) = layout else {
@@ -156,7 +157,7 @@ pub fn get(data: &[u8], geometry: Geometry, x: usize, y: usize) -> Pixel
 
 // Writes pixel (x, y), and no other byte.
 pub fn set(data: &mut [u8], geometry: Geometry, x: usize, y: usize, value: u8) -> Written
-    ensures { λ r. ⌜ Sets (now («data» .entry)) geometry x y value r (now («data» .exit)) ⌝ }
+    ensures { λ r. ⌜ Sets (now («data» .entry)) geometry x y value (writtenAnswer r) (now («data» .exit)) ⌝ }
 {
     let layout = check_pixel(data.len(), geometry, x, y);
     let Layout::Valid(g) = layout else {
@@ -241,7 +242,7 @@ fn unpack_rows(workspace: &[u8], at: usize, dst: &mut [u8], geometry: Geometry)
 
 // The rows of a strided picture into a packed plane of the workspace, at an offset.
 pub fn pack(src: &[u8], geometry: Geometry, workspace: &mut [u8], at: usize) -> Copied
-    ensures { λ r. ⌜ Packs (now (src .entry)) geometry at (now (workspace .entry)) r (now (workspace .exit)) ⌝ }
+    ensures { λ r. ⌜ Packs (now (src .entry)) geometry at (now (workspace .entry)) (copiedAnswer r) (now (workspace .exit)) ⌝ }
 {
     let layout = validate_layout(src.len(), geometry);
     let Layout::Valid(g) = layout else {
@@ -261,7 +262,7 @@ pub fn pack(src: &[u8], geometry: Geometry, workspace: &mut [u8], at: usize) -> 
 
 // A packed plane of the workspace, at an offset, out to the rows of a strided picture.
 pub fn unpack(workspace: &[u8], at: usize, dst: &mut [u8], geometry: Geometry) -> Copied
-    ensures { λ r. ⌜ Unpacks (now (workspace .entry)) at (now (dst .entry)) geometry r (now (dst .exit)) ⌝ }
+    ensures { λ r. ⌜ Unpacks (now (workspace .entry)) at (now (dst .entry)) geometry (copiedAnswer r) (now (dst .exit)) ⌝ }
 {
     let layout = validate_layout(dst.len(), geometry);
     let Layout::Valid(g) = layout else {
@@ -281,7 +282,7 @@ pub fn unpack(workspace: &[u8], at: usize, dst: &mut [u8], geometry: Geometry) -
 
 // The number of a copy's refusal, and 0 of none.
 pub fn copied_number(copied: Copied) -> u32
-    ensures { λ r. ⌜ r ≡ copiedNumber copied ⌝ }
+    ensures { λ r. ⌜ r ≡ answerNumber (copiedAnswer copied) ⌝ }
 {
     match copied {
         Copied::Done => 0,

@@ -6,7 +6,7 @@ use native.Mathlib.Omega.{arith}
 use lib.ListN.{length}
 use borrow.Author.Tests.{eq-eqb, ne-eqb, lt-ltb, le-ltb}
 use Rattle.image.specs.declared.Geometry.{Geometry}
-use Rattle.image.specs.declared.Copied.{Copied}
+use Rattle.image.specs.Answers.{Answer, Bare}
 use Rattle.image.specs.Plane.{pixel, picture, painted, part, overwritten}
 use Rattle.image.specs.PlaneLaws.{length-plane, length-overwritten, part-overwritten}
 use Rattle.image.specs.Copy.{Packs, Unpacks}
@@ -28,7 +28,7 @@ length-divided d w h p c = length-plane w h (λ x y. quotient d (pixel p w x y) 
 
 -- ---- packed, closed, divided
 module _ (tally : Tally) (src : List ℕ) (g : Geometry) (d : BackgroundDivideConfig) (ws : List ℕ) (ready : FlattenReady tally src g d ws)
-    (r : Copied) (first : List ℕ) (pack : Packs src g 0 ws r first) where
+    (r : Answer Bare) (first : List ℕ) (pack : Packs src g 0 ws r first) where
   plane : (length first ≡ length ws) × (part 0 (g .width * g .height) first ≡ picture src g)
   plane = packs-plane (ready .from) (omega (arith, ready .fits)) pack
 
@@ -72,7 +72,7 @@ module _ (src : List ℕ) (s : Geometry) (dst : List ℕ) (t : Geometry) (d : Ba
       record { from = ready .from; kernel = ready .kernel; floor = ready .floor; fits = ready .fits; room = omega arith }
 
   module _ (raised : Tally) (ws′ : List ℕ) (flat : Flattened tally src s d ws raised ws′) where
-    pub picture-divided : {r : Copied} {dst′ : List ℕ} → Unpacks ws′ (s .width * s .height) dst t r dst′ → Divided src s dst t d ws raised dst′ ws′
+    pub picture-divided : {r : Answer Bare} {dst′ : List ℕ} → Unpacks ws′ (s .width * s .height) dst t r dst′ → Divided src s dst t d ws raised dst′ ws′
     picture-divided {r} {dst′} unpack =
         let area : t .width * t .height ≡ s .width * s .height = ap₂ (λ (a b : ℕ). a * b) (sym (ready .wide)) (sym (ready .high)) in
         let left = unpacks-done (ready .to) (omega (arith, flat .long, ready .fits)) unpack in

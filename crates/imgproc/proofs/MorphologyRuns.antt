@@ -6,7 +6,7 @@ use Prim.Native.Nat.{ℕ, _*_}
 use native.Mathlib.Omega.{arith}
 use lib.ListN.{length}
 use Rattle.image.specs.declared.Geometry.{Geometry}
-use Rattle.image.specs.declared.Copied.{Copied}
+use Rattle.image.specs.Answers.{Answer, Bare}
 use Rattle.image.specs.Plane.{picture, painted, part}
 use Rattle.image.specs.Copy.{Packs, Unpacks}
 use Rattle.imgproc.specs.declared.tally.Tally.{Tally}
@@ -39,7 +39,7 @@ twice-ready p = record { rows = once-ready p .rows; wide = p .wide; room = p .ro
 
 -- ---- packed, operated on, painted
 module _ (operation : Operation) (src : List ℕ) (s : Geometry) (dst : List ℕ) (t : Geometry) (k : ℕ) (ws : List ℕ) (ready : RunReady src s dst t k ws)
-    (r : Copied) (first : List ℕ) (pack : Packs src s 0 ws r first) where
+    (r : Answer Bare) (first : List ℕ) (pack : Packs src s 0 ws r first) where
   plane : (length first ≡ length ws) × (part 0 (s .width * s .height) first ≡ picture src s)
   plane = packs-plane (ready .from) (omega (arith, ready .fits)) pack
 
@@ -53,7 +53,7 @@ module _ (operation : Operation) (src : List ℕ) (s : Geometry) (dst : List ℕ
         room = omega arith;
       }
 
-  module _ (raised : Tally) (second : List ℕ) (counts : Counts operation first k (s .width) (s .height) raised second) (r′ : Copied) (dst′ : List ℕ)
+  module _ (raised : Tally) (second : List ℕ) (counts : Counts operation first k (s .width) (s .height) raised second) (r′ : Answer Bare) (dst′ : List ℕ)
       (unpack : Unpacks second (s .width * s .height) dst t r′ dst′) where
     pub run-runs : Runs operation src s dst t k ws raised dst′ second
     run-runs =

@@ -1,13 +1,12 @@
--- When a call is refused: with n exactly when n is the number of the first condition of its list that fits, and then every lent buffer is
--- as it was; accepted exactly when none fits. One proof over the list of conditions, then a law for each contract. Assumes nothing.
+-- When a call of this crate is refused: with n exactly when n is the number of the first condition of its list that fits, and then every
+-- lent buffer is as it was; accepted exactly when none fits. (FirstFits and Exactly are image's.) Assumes nothing.
 use Prim.Native.Nat.{ℕ}
-use native.Mathlib.Omega.{arith}
-use mathlib.Core.Path.{_≡_, refl, sym, ap, _∙_}
+use mathlib.Core.Path.{_≡_, refl, sym, _∙_}
 use mathlib.Core.Bool.{Bool, true, false, cond}
 use mathlib.Core.List.{List, [], _∷_}
-use mathlib.Core.Logic.{_↔_}
 use lib.ListN.{length, getD}
-use Rattle.image.specs.Answers.{Answer, accepted, refused, Condition}
+use Rattle.image.specs.Answers.{Answer, refused, Condition, numbered, answerTo}
+use Rattle.image.specs.RefusedExactly.{Exactly, differ, exactly}
 use Rattle.imgproc.specs.declared.ImgProcError.{ImgProcError}
 use Rattle.imgproc.specs.declared.Check.{Check}
 use Rattle.imgproc.specs.declared.Check.the-variants.{Accepted, Refused}
@@ -20,71 +19,33 @@ use Rattle.imgproc.specs.GridCalls.{
 }
 use Rattle.imgproc.specs.Reading.{ReadingNumbers, ReadingLent, ReadingLeft, numbersFrom, readingConditions, Reads}
 
--- n is the number of the first condition of a list that fits: those before it do not
-pub data FirstFits : Conditions → ℕ → Type 0 where
-  here : {c : Condition ImgProcError} {cs : Conditions} {n : ℕ} → c .fits ≡ true → errorNumber (c .refusal) ≡ n → FirstFits (c ∷ cs) n
-  later : {c : Condition ImgProcError} {cs : Conditions} {n : ℕ} → c .fits ≡ false → FirstFits cs n → FirstFits (c ∷ cs) n
+-- a list of conditions by its numbers
+abbrev pub numbers : Conditions → List (Condition ℕ)
+numbers cs = numbered errorNumber cs
 
--- no condition of a list fits
-pub data NoneFits : Conditions → Type 0 where
-  none : NoneFits []
-  next : {c : Condition ImgProcError} {cs : Conditions} → c .fits ≡ false → NoneFits cs → NoneFits (c ∷ cs)
-
--- an answer by a list of conditions: refused with a number exactly when it is that of the first that fits, else accepted with its values
-pub record Exactly {A : Type 0} (cs : Conditions) (values : A) (answer : Answer A) : Type 0 where
-  pub refused-exactly : (n : ℕ) → (answer ≡ refused n) ↔ FirstFits cs n
-  pub accepted-exactly : (answer ≡ accepted values) ↔ NoneFits cs
+-- an answer by a check is the answer to its list
+answer-is : {A : Type 0} (cs : Conditions) (v : A) → answerBy (first cs) v ≡ answerTo (numbers cs) v
+unfolding first answerTo
+answer-is [] v = refl
+answer-is (c ∷ cs) v = step (c .fits) (answer-is cs v)
+  where
+    step : (f : Bool) → answerBy (first cs) v ≡ answerTo (numbers cs) v
+        → answerBy (cond f (Refused (c .refusal)) (first cs)) v ≡ cond f (refused (errorNumber (c .refusal))) (answerTo (numbers cs) v)
+    step true p = refl
+    step false p = p
 
 -- a check that refuses
 record RefusedBy (c : Check) : Type 0 where
   kind : ImgProcError
   is : c ≡ Refused kind
 
--- ---- the one proof
-
 module _ {A : Type 0} (values : A) where
-  differ : {n : ℕ} → accepted values ≡ refused n → ⊥
-  differ p = let z : _≡_ {A = ℕ} 0 1 = cc in omega arith
+  by-list : (cs : Conditions) {answer : Answer A} → answer ≡ answerBy (first cs) values → Exactly (numbers cs) values answer
+  by-list cs is = exactly values (numbers cs) (is ∙ answer-is cs values)
 
-  fits-refused : {cs : Conditions} {n : ℕ} → FirstFits cs n → answerBy (first cs) values ≡ refused n
-  unfolding first
-  fits-refused (here p q) = rw p (ap (λ (m : ℕ). refused m) q)
-  fits-refused (later p f) = rw p (fits-refused f)
-
-  refused-fits : (cs : Conditions) {n : ℕ} → answerBy (first cs) values ≡ refused n → FirstFits cs n
-  unfolding first
-  refused-fits [] p = absurd (differ p)
-  refused-fits (c ∷ cs) p = go (c .fits) refl p (λ q. refused-fits cs q)
-    where
-      go : (f : Bool) {n : ℕ} → c .fits ≡ f → answerBy (cond f (Refused (c .refusal)) (first cs)) values ≡ refused n
-          → (answerBy (first cs) values ≡ refused n → FirstFits cs n) → FirstFits (c ∷ cs) n
-      go true {n} e p r = let q : errorNumber (c .refusal) ≡ n = cc in here e q
-      go false e p r = later e (r p)
-
-  none-accepted : {cs : Conditions} → NoneFits cs → answerBy (first cs) values ≡ accepted values
-  unfolding first
-  none-accepted none = refl
-  none-accepted (next p f) = rw p (none-accepted f)
-
-  accepted-none : (cs : Conditions) → answerBy (first cs) values ≡ accepted values → NoneFits cs
-  unfolding first
-  accepted-none [] p = none
-  accepted-none (c ∷ cs) p = go (c .fits) refl p (λ q. accepted-none cs q)
-    where
-      go : (f : Bool) → c .fits ≡ f → answerBy (cond f (Refused (c .refusal)) (first cs)) values ≡ accepted values
-          → (answerBy (first cs) values ≡ accepted values → NoneFits cs) → NoneFits (c ∷ cs)
-      go true e p r = absurd (differ (sym p))
-      go false e p r = next e (r p)
-
-  pub exactly : (cs : Conditions) {answer : Answer A} → answer ≡ answerBy (first cs) values → Exactly cs values answer
-  exactly cs is = record {
-    refused-exactly = λ n. (λ p. refused-fits cs (sym is ∙ p), λ f. is ∙ fits-refused f);
-    accepted-exactly = (λ p. accepted-none cs (sym is ∙ p), λ f. is ∙ none-accepted f);
-  }
-
-  -- a refused answer comes from a refused check
+  -- a refused answer comes from a check that refuses
   turned : (c : Check) {n : ℕ} → answerBy c values ≡ refused n → RefusedBy c
-  turned Accepted p = absurd (differ p)
+  turned Accepted p = absurd (differ values p)
   turned (Refused e) p = record { kind = e; is = refl }
 
 -- ---- erosion, dilation, opening, closing, division, Sauvola: every call from picture to picture
@@ -92,8 +53,8 @@ module _ {S A : Type 0} {operator : Operator S A} {lent : Loan S} {answer : Answ
   abbrev callValues : A
   callValues = operator .values (lent .settings) (lent .source .width) (lent .source .height)
 
-  pub call-exactly : Exactly (conditionsOf operator lent) callValues answer
-  call-exactly = exactly callValues (conditionsOf operator lent) (serves .answers)
+  pub call-exactly : Exactly (numbers (conditionsOf operator lent)) callValues answer
+  call-exactly = by-list callValues (conditionsOf operator lent) (serves .answers)
 
   pub call-keeps : {n : ℕ} → answer ≡ refused n → (left .dst ≡ lent .dst) × (left .workspace ≡ lent .workspace)
   call-keeps p =
@@ -102,8 +63,8 @@ module _ {S A : Type 0} {operator : Operator S A} {lent : Loan S} {answer : Answ
 
 -- ---- the build of a grid
 module _ {lent : BuildLent} {answer : Answer TileCounts} {left : BuildLeft} (builds : Builds lent answer left) where
-  pub build-exactly : Exactly (buildConditions lent) (tilesFrom lent) answer
-  build-exactly = exactly (tilesFrom lent) (buildConditions lent) (builds .answers)
+  pub build-exactly : Exactly (numbers (buildConditions lent)) (tilesFrom lent) answer
+  build-exactly = by-list (tilesFrom lent) (buildConditions lent) (builds .answers)
 
   pub build-keeps : {n : ℕ} → answer ≡ refused n
       → (left .workspace ≡ lent .workspace) × ((left .thresholds ≡ lent .thresholds) × (left .skips ≡ lent .skips))
@@ -113,19 +74,19 @@ module _ {lent : BuildLent} {answer : Answer TileCounts} {left : BuildLeft} (bui
 
 -- ---- the queries, which are lent nothing that they write to
 module _ (q : TileThresholdGrid) (d : List ℕ) where
-  pub threshold-exactly : (x y : ℕ) → Exactly (pixelConditions q (length d) x y) (getD d (tileOf q x y) 0) (thresholdAsked q d x y)
-  threshold-exactly x y = exactly (getD d (tileOf q x y) 0) (pixelConditions q (length d) x y) refl
+  pub threshold-exactly : (x y : ℕ) → Exactly (numbers (pixelConditions q (length d) x y)) (getD d (tileOf q x y) 0) (thresholdAsked q d x y)
+  threshold-exactly x y = by-list (getD d (tileOf q x y) 0) (pixelConditions q (length d) x y) refl
 
-  pub skip-exactly : (x y : ℕ) → Exactly (pixelConditions q (length d) x y) (skipped d (tileOf q x y)) (skipAsked q d x y)
-  skip-exactly x y = exactly (skipped d (tileOf q x y)) (pixelConditions q (length d) x y) refl
+  pub skip-exactly : (x y : ℕ) → Exactly (numbers (pixelConditions q (length d) x y)) (skipped d (tileOf q x y)) (skipAsked q d x y)
+  skip-exactly x y = by-list (skipped d (tileOf q x y)) (pixelConditions q (length d) x y) refl
 
-  pub row-skip-exactly : (y : ℕ) → Exactly (rowConditions q (length d) y) (allSkipped d (tileRowOf q y) (q .«tiles_x»)) (rowSkipAsked q d y)
-  row-skip-exactly y = exactly (allSkipped d (tileRowOf q y) (q .«tiles_x»)) (rowConditions q (length d) y) refl
+  pub row-skip-exactly : (y : ℕ) → Exactly (numbers (rowConditions q (length d) y)) (allSkipped d (tileRowOf q y) (q .«tiles_x»)) (rowSkipAsked q d y)
+  row-skip-exactly y = by-list (allSkipped d (tileRowOf q y) (q .«tiles_x»)) (rowConditions q (length d) y) refl
 
 -- ---- the reading
 module _ {lent : ReadingLent} {answer : Answer ReadingNumbers} {left : ReadingLeft} (reads : Reads lent answer left) where
-  pub reading-exactly : Exactly (readingConditions lent) (numbersFrom lent) answer
-  reading-exactly = exactly (numbersFrom lent) (readingConditions lent) (reads .answers)
+  pub reading-exactly : Exactly (numbers (readingConditions lent)) (numbersFrom lent) answer
+  reading-exactly = by-list (numbersFrom lent) (readingConditions lent) (reads .answers)
 
   pub reading-keeps : {n : ℕ} → answer ≡ refused n → (left .dst ≡ lent .dst) × ((left .bytes ≡ lent .bytes) × (left .words ≡ lent .words))
   reading-keeps p =

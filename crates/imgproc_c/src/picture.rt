@@ -5,8 +5,11 @@ use image::Pixel;
 use image::Written;
 ghost use mathlib.Core.Path.{_≡_};
 ghost use lib.ListN.{length};
-ghost use Rattle.image.specs.Layout.{layoutOf, layoutNumber, pixelLayout, rowLayout};
-ghost use Rattle.imgproc_c.specs.Picture.{geometry, Gets, SetsNumber, RowCopied, PacksNumber, UnpacksNumber};
+ghost use Rattle.image.specs.Answers.{answerNumber};
+ghost use Rattle.image.specs.Layout.{layoutOf, layoutAnswer, pixelLayout, rowLayout};
+ghost use Rattle.image.specs.Pixel.{valueIn};
+ghost use Rattle.imgproc_c.specs.Exports.{Tells};
+ghost use Rattle.imgproc_c.specs.Picture.{geometry, SetsNumber, RowCopied, PacksNumber, UnpacksNumber};
 
 #[no_mangle]
 pub extern "C" fn imgproc_validate_layout(
@@ -15,7 +18,7 @@ pub extern "C" fn imgproc_validate_layout(
     height: usize,
     stride: usize,
 ) -> u32
-    ensures { λ r. ⌜ r ≡ layoutNumber (layoutOf len (geometry width height stride)) ⌝ }
+    ensures { λ r. ⌜ r ≡ answerNumber (layoutAnswer (layoutOf len (geometry width height stride))) ⌝ }
 {
     let geometry = Geometry {
         width,
@@ -35,7 +38,14 @@ pub extern "C" fn imgproc_get(
     y: usize,
     value: &mut u8,
 ) -> u32
-    ensures { λ r. ⌜ Gets (now («data» .entry)) (geometry width height stride) x y (now (value .entry)) r (now (value .exit)) ⌝ }
+    ensures { λ r.
+        ⌜
+        Tells
+        (valueIn (pixelLayout (length (now («data» .entry))) (geometry width height stride) x y) (now («data» .entry)) x y)
+        (now (value .entry))
+        r
+        (now (value .exit))
+        ⌝ }
 {
     let geometry = Geometry {
         width,
@@ -84,7 +94,7 @@ pub extern "C" fn imgproc_check_row(
     stride: usize,
     y: usize,
 ) -> u32
-    ensures { λ r. ⌜ r ≡ layoutNumber (rowLayout len (geometry width height stride) y) ⌝ }
+    ensures { λ r. ⌜ r ≡ answerNumber (layoutAnswer (rowLayout len (geometry width height stride) y)) ⌝ }
 {
     let geometry = Geometry {
         width,

@@ -5,7 +5,7 @@ use mathlib.Core.Path.{refl, sym, ap, _∙_}
 use lib.ListN.{length}
 use denote.Ref.{now}
 use Rattle.image.specs.declared.Geometry.{Geometry}
-use Rattle.image.specs.declared.Copied.the-variants.{Done}
+use Rattle.image.specs.Answers.{accepted, bare}
 use Rattle.image.specs.Copy.{packedIn}
 use Rattle.image.proofs.Rooms.{copied-refused, kept-here, same-here, area-fits, copied-short, copied-done, packs}
 use Rattle.image.proofs.pack.Statement.{statement}
@@ -82,7 +82,7 @@ returns-4 c =
     packs (now (a .src)) (a .geometry) (a .at) (now (a .workspace))
     (copied-done (length (now (a .src))) (a .geometry) (a .at) (length (now (a .workspace))) (l .validate-layout .ensures)
     (v .layout .given .1) (omega (arith, e .if2 .left, e .before .if1 .left)))
-    (p .pack-rows .ensures ∙ ap (λ (u : Geometry). packedIn Done u (now (a .src)) (a .at) (now (a .workspace)))
+    (p .pack-rows .ensures ∙ ap (λ (u : Geometry). packedIn (accepted bare) u (now (a .src)) (a .at) (now (a .workspace)))
     (sym (same-here (length (now (a .src))) (a .geometry) (a .at) (length (now (a .workspace))) (l .validate-layout .ensures) (v .layout .given .1))))
 
 pub pack-spec : {M : Type 1} → statement M

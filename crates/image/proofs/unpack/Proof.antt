@@ -5,7 +5,7 @@ use mathlib.Core.Path.{refl, sym, ap, _∙_}
 use lib.ListN.{length}
 use denote.Ref.{now}
 use Rattle.image.specs.declared.Geometry.{Geometry}
-use Rattle.image.specs.declared.Copied.the-variants.{Done}
+use Rattle.image.specs.Answers.{accepted, bare}
 use Rattle.image.specs.Copy.{unpackedIn}
 use Rattle.image.proofs.Rooms.{copied-refused, kept-here, same-here, area-fits, copied-short, copied-done, unpacks}
 use Rattle.image.proofs.unpack.Statement.{statement}
@@ -82,7 +82,7 @@ returns-4 c =
     unpacks (now (a .workspace)) (a .at) (now (a .dst)) (a .geometry)
     (copied-done (length (now (a .dst))) (a .geometry) (a .at) (length (now (a .workspace))) (l .validate-layout .ensures)
     (v .layout .given .1) (omega (arith, e .if2 .left, e .before .if1 .left)))
-    (p .unpack-rows .ensures ∙ ap (λ (u : Geometry). unpackedIn Done u (now (a .workspace)) (a .at) (now (a .dst)))
+    (p .unpack-rows .ensures ∙ ap (λ (u : Geometry). unpackedIn (accepted bare) u (now (a .workspace)) (a .at) (now (a .dst)))
     (sym (same-here (length (now (a .dst))) (a .geometry) (a .at) (length (now (a .workspace))) (l .validate-layout .ensures) (v .layout .given .1))))
 
 pub unpack-spec : {M : Type 1} → statement M

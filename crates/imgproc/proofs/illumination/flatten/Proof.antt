@@ -1,4 +1,5 @@
 -- `flatten` packs, closes and divides; the copy is never refused. Assumes nothing.
+use Rattle.image.specs.Copy.{copiedAnswer}
 use borrow.Author.Needs.{needs}
 use denote.Ref.{now}
 use Rattle.imgproc.proofs.DivisionRuns.{close-ready, flattened}
@@ -19,7 +20,7 @@ close-rect-into-requires c κs =
     let pack = c .before .before .before in
     let start = pack .before .before .before .before in
     let a = start .args in
-    close-ready (a .tally) (now (a .src)) (a .geometry) (a .config) (now (a .workspace)) (start .pre) (pack .pack .result) (pack .pack .last .1 .1 .0) (pack .pack .ensures)
+    close-ready (a .tally) (now (a .src)) (a .geometry) (a .config) (now (a .workspace)) (start .pre) (copiedAnswer (pack .pack .result)) (pack .pack .last .1 .1 .0) (pack .pack .ensures)
 
 divide-plane-requires : tie.Need-divide-plane-requires
 divide-plane-requires c κs = search needs
@@ -34,7 +35,7 @@ returns c =
     let pack = close .before .before .before .before in
     let start = pack .before .before .before .before in
     let a = start .args in
-    flattened (a .tally) (now (a .src)) (a .geometry) (a .config) (now (a .workspace)) (start .pre) (pack .pack .result) (pack .pack .last .1 .1 .0) (pack .pack .ensures)
+    flattened (a .tally) (now (a .src)) (a .geometry) (a .config) (now (a .workspace)) (start .pre) (copiedAnswer (pack .pack .result)) (pack .pack .last .1 .1 .0) (pack .pack .ensures)
     (close .close-rect-into .result) (close .close-rect-into .last .1 .0) (close .close-rect-into .ensures) (divide .divide-plane .ensures)
 
 pub flatten-spec : {M : Type 1} → statement M

@@ -1,6 +1,7 @@
 -- `run` meets its contract: packed, operated on, painted; neither copy is refused. Assumes nothing.
 use native.Mathlib.Omega.{arith}
 use Rattle.imgproc.proofs.MorphologyRuns.{run-count-ready, run-runs}
+use Rattle.image.specs.Copy.{copiedAnswer}
 use borrow.Author.Needs.{needs}
 use Rattle.imgproc.proofs.morphology.run.Statement.{statement}
 use Rattle.imgproc.proofs.morphology.run.Tie as tie
@@ -13,7 +14,7 @@ count-requires c κs =
     let pack = c .before .before .before in
     let start = pack .before .before .before .before .before in
     let a = start .args in
-    run-count-ready (a .operation) (a .src .now) (a .src-geometry) (a .dst .now) (a .dst-geometry) (a .kernel) (a .workspace .now) (start .pre) (pack .pack .result) (pack .pack .last .1 .1 .0) (pack .pack .ensures)
+    run-count-ready (a .operation) (a .src .now) (a .src-geometry) (a .dst .now) (a .dst-geometry) (a .kernel) (a .workspace .now) (start .pre) (copiedAnswer (pack .pack .result)) (pack .pack .last .1 .1 .0) (pack .pack .ensures)
 
 mul-unpack : tie.Need-mul-unpack
 mul-unpack c =
@@ -40,11 +41,11 @@ returns c =
     let pack = count .before .before .before .before in
     let start = pack .before .before .before .before .before in
     let a = start .args in
-    run-runs (a .operation) (a .src .now) (a .src-geometry) (a .dst .now) (a .dst-geometry) (a .kernel) (a .workspace .now) (start .pre) (pack .pack .result) (pack .pack .last .1 .1 .0) (pack .pack .ensures)
+    run-runs (a .operation) (a .src .now) (a .src-geometry) (a .dst .now) (a .dst-geometry) (a .kernel) (a .workspace .now) (start .pre) (copiedAnswer (pack .pack .result)) (pack .pack .last .1 .1 .0) (pack .pack .ensures)
     (count .count .result)
     (count .count .last .0)
     (count .count .ensures)
-    (unpack .unpack .result)
+    (copiedAnswer (unpack .unpack .result))
     (unpack .unpack .last .1 .1 .0)
     (unpack .unpack .ensures)
 

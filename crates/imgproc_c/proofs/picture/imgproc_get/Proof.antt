@@ -1,9 +1,8 @@
 -- The pixel goes to the lent number, or its refusal to the answer. Assumes nothing.
 use borrow.Author.Needs.{needs}
-use mathlib.Core.Path.{sym, _∙_}
-use denote.Ref.{now}
-use Rattle.imgproc_c.specs.Picture.{geometry}
-use Rattle.imgproc_c.proofs.Numbers.{got, not-got}
+use mathlib.Core.Path.{refl, sym, ap, _∙_}
+use Rattle.image.specs.Pixel.{pixelAnswer}
+use Rattle.imgproc_c.proofs.Exporting.{tells-as}
 use Rattle.imgproc_c.proofs.picture.imgproc_get.Statement.{statement}
 use Rattle.imgproc_c.proofs.picture.imgproc_get.Tie as tie
 
@@ -22,15 +21,13 @@ number-requires c κs = search needs
 returns : tie.Need-returns
 returns c =
     let l = c .before .before .before in
-    let a = l .before .before .args in
-    got (now (a .«data»)) (geometry (a .width) (a .height) (a .stride)) (a .x) (a .y) (now (a .value)) (sym (c .before .pixel .given .1) ∙ l .get .ensures)
+    tells-as (ap pixelAnswer (sym (c .before .pixel .given .1)) ∙ l .get .ensures) (record { answers = refl; hands-out = refl })
 
 returns-2 : tie.Need-returns-2
 returns-2 c =
     let p = c .before .before in
     let l = p .before .before in
-    let a = l .before .before .args in
-    not-got (now (a .«data»)) (geometry (a .width) (a .height) (a .stride)) (a .x) (a .y) (now (a .value)) (sym (p .pixel2 .given .1) ∙ l .get .ensures) (c .number .ensures)
+    tells-as (ap pixelAnswer (sym (p .pixel2 .given .1)) ∙ l .get .ensures) (record { answers = c .number .ensures; hands-out = refl })
 
 pub imgproc-get-spec : {M : Type 1} → statement M
 imgproc-get-spec =

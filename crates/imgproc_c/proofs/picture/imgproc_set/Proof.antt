@@ -1,8 +1,9 @@
 -- The answer of the write, by number. Assumes nothing.
 use borrow.Author.Needs.{needs}
+use mathlib.Core.Path.{refl}
 use denote.Ref.{now}
 use Rattle.imgproc_c.specs.Picture.{geometry}
-use Rattle.imgproc_c.proofs.Numbers.{was-set, not-set}
+use Rattle.imgproc_c.proofs.Numbers.{set-number}
 use Rattle.imgproc_c.proofs.picture.imgproc_set.Statement.{statement}
 use Rattle.imgproc_c.proofs.picture.imgproc_set.Tie as tie
 
@@ -25,7 +26,7 @@ returns : tie.Need-returns
 returns c =
     let l = c .before .before .before .before in
     let a = l .before .before .before .args in
-    was-set (now (a .«data»)) (geometry (a .width) (a .height) (a .stride)) (a .x) (a .y) (a .value) (rw (c .enum-told .given .1) at (l .set .ensures))
+    set-number (now (a .«data»)) (geometry (a .width) (a .height) (a .stride)) (a .x) (a .y) (a .value) (rw (c .enum-told .given .1) at (l .set .ensures)) refl
 
 same-length-2 : tie.Need-same-length-2
 same-length-2 c = search needs
@@ -35,7 +36,7 @@ returns-2 c =
     let p = c .before .before in
     let l = p .before .before .before .before in
     let a = l .before .before .before .args in
-    not-set (now (a .«data»)) (geometry (a .width) (a .height) (a .stride)) (a .x) (a .y) (a .value) (rw (p .written .given .1) at (l .set .ensures)) (c .number .ensures)
+    set-number (now (a .«data»)) (geometry (a .width) (a .height) (a .stride)) (a .x) (a .y) (a .value) (rw (p .written .given .1) at (l .set .ensures)) (c .number .ensures)
 
 pub imgproc-set-spec : {M : Type 1} → statement M
 imgproc-set-spec =
