@@ -2,7 +2,7 @@
 mod base;
 pub mod grid;
 pub mod illumination;
-pub mod judging;
+mod judging;
 pub mod morphology;
 mod query;
 pub mod reading;
