@@ -49,7 +49,7 @@ fn judge(
 }
 
 // How many pixels were judged what.
-pub struct Judged {
+pub(crate) struct Judged {
     pub dark: u64,
     pub light: u64,
     pub skipped: u64,

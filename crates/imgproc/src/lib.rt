@@ -2,7 +2,7 @@
 mod base;
 pub mod grid;
 pub mod illumination;
-mod judging;
+pub mod judging;
 pub mod morphology;
 mod query;
 pub mod reading;

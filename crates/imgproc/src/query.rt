@@ -13,7 +13,7 @@ ghost use Rattle.imgproc.specs.Refusals.{first};
 ghost use Rattle.imgproc.specs.GridCalls.{badSide, badGrid, queryConditions, pixelPlace, rowPlace, placeRefusal, allSkipped};
 
 // Where the byte of a tile stands.
-pub enum TilePlace {
+pub(crate) enum TilePlace {
     At(usize),
     Refused(ImgProcError),
 }
