@@ -2,7 +2,8 @@
  * imgproc: proved operations on grey pictures.
  *
  * A picture is a range of bytes with a width, a height and a stride: pixel (x, y) is the byte at y * stride + x. The
- * range needs stride * (height - 1) + width bytes; the last row needs no padding. Sides run from 1 to 4096.
+ * range needs stride * (height - 1) + width bytes; the last row needs no padding. Sides run from 1 to
+ * IMGPROC_MAX_SIDE.
  *
  * Every call but imgproc_root, which is never refused, answers a number: 0 when it did its work, else why it was
  * refused; enum imgproc_refusal below lists them. A refused call changes nothing: no lent byte, no workspace, no number
@@ -36,6 +37,9 @@
 #define IMGPROC_VERSION "0.1.0"
 #define IMGPROC_ABI 1
 
+/* The largest side of a picture. */
+#define IMGPROC_MAX_SIDE 4096
+
 #ifdef __cplusplus
 extern "C" {
 #endif
@@ -46,7 +50,7 @@ enum imgproc_refusal {
     IMGPROC_EMPTY_DIMENSIONS = 1,      /* a side is zero */
     IMGPROC_STRIDE_TOO_SMALL = 2,      /* the stride is below the width */
     IMGPROC_BUFFER_TOO_SMALL = 3,      /* the range is shorter than the picture needs */
-    IMGPROC_SIDE_TOO_LARGE = 4,        /* a side is above 4096 */
+    IMGPROC_SIDE_TOO_LARGE = 4,        /* a side is above IMGPROC_MAX_SIDE */
     IMGPROC_DIMENSION_MISMATCH = 5,    /* source and destination differ in width or height */
     IMGPROC_INVALID_KERNEL = 6,        /* the kernel is even or below 3 */
     IMGPROC_INVALID_CONFIGURATION = 7, /* a setting is out of range */
