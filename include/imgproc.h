@@ -182,9 +182,9 @@ uint32_t imgproc_tile_grid_build(const uint8_t *src, size_t src_len, size_t widt
                                  uint8_t *thresholds, size_t thresholds_len, uint8_t *skips, size_t skips_len,
                                  size_t *tiles_x, size_t *tiles_y);
 
-/* Puts the threshold of the tile that holds pixel (x, y) into *value. Refused: 7 where a side is not in 1..4096, a
-   tile side is 0 or a tile count is not the side divided by the tile side, rounded up; then 10 where len is below
-   tiles_x * tiles_y; then 9. */
+/* Puts the threshold of the tile that holds pixel (x, y) into *value. Refused: 7 where a side is not in
+   1..IMGPROC_MAX_SIDE, a tile side is 0 or a tile count is not the side divided by the tile side, rounded up; then 10
+   where len is below tiles_x * tiles_y; then 9. */
 uint32_t imgproc_threshold_at(size_t width, size_t height, size_t tile_width, size_t tile_height,
                               size_t tiles_x, size_t tiles_y, const uint8_t *thresholds, size_t len,
                               size_t x, size_t y, uint8_t *value);
