@@ -2,7 +2,8 @@
  * imgproc: proved operations on grey pictures.
  *
  * A picture is a range of bytes with a width, a height and a stride: pixel (x, y) is the byte at y * stride + x. The
- * range needs stride * (height - 1) + width bytes; the last row needs no padding. Sides run from 1 to 4096.
+ * range needs stride * (height - 1) + width bytes; the last row needs no padding. Sides run from 1 to
+ * IMGPROC_MAX_SIDE.
  *
  * Every call but imgproc_root, which is never refused, answers a number: 0 when it did its work, else why it was
  * refused; enum imgproc_refusal below lists them. A refused call changes nothing: no lent byte, no workspace, no number
@@ -36,6 +37,9 @@
 #define IMGPROC_VERSION "0.1.0"
 #define IMGPROC_ABI 1
 
+/* The largest side of a picture. */
+#define IMGPROC_MAX_SIDE 4096
+
 #ifdef __cplusplus
 extern "C" {
 #endif
@@ -46,7 +50,7 @@ enum imgproc_refusal {
     IMGPROC_EMPTY_DIMENSIONS = 1,      /* a side is zero */
     IMGPROC_STRIDE_TOO_SMALL = 2,      /* the stride is below the width */
     IMGPROC_BUFFER_TOO_SMALL = 3,      /* the range is shorter than the picture needs */
-    IMGPROC_SIDE_TOO_LARGE = 4,        /* a side is above 4096 */
+    IMGPROC_SIDE_TOO_LARGE = 4,        /* a side is above IMGPROC_MAX_SIDE */
     IMGPROC_DIMENSION_MISMATCH = 5,    /* source and destination differ in width or height */
     IMGPROC_INVALID_KERNEL = 6,        /* the kernel is even or below 3 */
     IMGPROC_INVALID_CONFIGURATION = 7, /* a setting is out of range */
@@ -178,9 +182,9 @@ uint32_t imgproc_tile_grid_build(const uint8_t *src, size_t src_len, size_t widt
                                  uint8_t *thresholds, size_t thresholds_len, uint8_t *skips, size_t skips_len,
                                  size_t *tiles_x, size_t *tiles_y);
 
-/* Puts the threshold of the tile that holds pixel (x, y) into *value. Refused: 7 where a side is not in 1..4096, a
-   tile side is 0 or a tile count is not the side divided by the tile side, rounded up; then 10 where len is below
-   tiles_x * tiles_y; then 9. */
+/* Puts the threshold of the tile that holds pixel (x, y) into *value. Refused: 7 where a side is not in
+   1..IMGPROC_MAX_SIDE, a tile side is 0 or a tile count is not the side divided by the tile side, rounded up; then 10
+   where len is below tiles_x * tiles_y; then 9. */
 uint32_t imgproc_threshold_at(size_t width, size_t height, size_t tile_width, size_t tile_height,
                               size_t tiles_x, size_t tiles_y, const uint8_t *thresholds, size_t len,
                               size_t x, size_t y, uint8_t *value);

@@ -98,7 +98,7 @@ struct imgproc_reading_settings {
 static inline struct imgproc_reading_settings imgproc_settings_for_column(size_t pixels) {
     struct imgproc_reading_settings settings = IMGPROC_READING_DEFAULTS;
     /* No picture has a wider one, and nothing below wraps. */
-    const size_t column = pixels < 1 ? 1 : pixels > 4096 ? 4096 : pixels;
+    const size_t column = pixels < 1 ? 1 : pixels > IMGPROC_MAX_SIDE ? IMGPROC_MAX_SIDE : pixels;
     settings.division.structuring_element = 2 * column + 1;
     settings.grid.neighborhood_radius = (column + settings.grid.tile_width - 1) / settings.grid.tile_width;
     settings.sauvola.radius = column + column / 4;
@@ -132,7 +132,7 @@ static inline const char *imgproc_refusal_words(uint32_t number) {
     case IMGPROC_EMPTY_DIMENSIONS: return "a side of the picture is zero";
     case IMGPROC_STRIDE_TOO_SMALL: return "the stride is below the width";
     case IMGPROC_BUFFER_TOO_SMALL: return "the buffer does not hold the picture";
-    case IMGPROC_SIDE_TOO_LARGE: return "a side of the picture is above 4096";
+    case IMGPROC_SIDE_TOO_LARGE: return "a side of the picture is above IMGPROC_MAX_SIDE";
     case IMGPROC_DIMENSION_MISMATCH: return "source and destination differ in size";
     case IMGPROC_INVALID_KERNEL: return "the kernel is even or below 3";
     case IMGPROC_INVALID_CONFIGURATION: return "a setting is out of range";

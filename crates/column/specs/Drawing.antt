@@ -60,7 +60,7 @@ inkOf value = cond (eqb value (settings .sauvola .«dark_value»)) 35 46
 
 -- the rows can be drawn: the pixels are there, and room for the marks
 pub record Room (pixels : List ℕ) (w h : ℕ) (out : List ℕ) (at : ℕ) : Type 0 where
-  pub small : w < 4096
+  pub small : w ≤ sideLimit
   pub holds : w * h ≤ length pixels
   pub fits : at + (w + 1) * h ≤ length out
 

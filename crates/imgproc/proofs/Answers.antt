@@ -1,13 +1,11 @@
 -- What accepted settings and room of `sauvola_into` say. Assumes nothing.
-use Prim.Native.Nat.{ℕ, _+_, _*_, _≤_}
-use native.Mathlib.Nat.{mul-le-mul, pos-of-ne-zero}
-use native.Mathlib.Omega.{arith}
+use Prim.Native.Nat.{ℕ, _≤_}
+use native.Mathlib.Nat.{pos-of-ne-zero}
 use mathlib.Core.Path.{_≡_, sym, _∙_}
 use mathlib.Core.Bool.{_||_}
 use lib.Dec.{ltb, eqb}
 use borrow.Author.Tests.{ltb-false, eqb-false}
 use Rattle.image.specs.declared.Geometry.{Geometry}
-use Rattle.image.specs.Layout.{sideLimit}
 use Rattle.image.specs.LayoutLaws.{neither}
 use Rattle.imgproc.specs.declared.ImgProcError.the-variants.{InvalidConfiguration, WorkspaceTooSmall}
 use Rattle.imgproc.specs.declared.Check.{Check}
@@ -17,10 +15,6 @@ use Rattle.imgproc.specs.Refusals.{first, refusedIf, sauvolaSettings, se
 use Rattle.imgproc.specs.Tables.{InRange}
 use Rattle.imgproc.specs.RefusalLaws.{both-accepted, not-refused}
 use Rattle.imgproc.proofs.WaysOut.{Pair}
-
--- the entries of a table fit
-pub entries-small : (w h : ℕ) → w ≤ sideLimit → h ≤ sideLimit → (w + 1) * (h + 1) ≤ (sideLimit + 1) * (sideLimit + 1)
-entries-small w h W H = mul-le-mul {n₂ = sideLimit + 1} {m₂ = sideLimit + 1} (omega arith) (omega arith)
 
 -- what accepted settings say, and accepted room
 pub in-range : (config : SauvolaConfig) → first (sauvolaSettings config) ≡ Accepted → InRange config

@@ -6,7 +6,8 @@ use mathlib.Core.Path.{_≡_, sym, _∙_, subst}
 use mathlib.Core.List.{List}
 use lib.ListN.{length, getD}
 use Rattle.image.specs.declared.Geometry.{Geometry}
-use Rattle.image.specs.Layout.{sideLimit}
+use Rattle.image.specs.Layout.{sideLimit, areaLimit}
+use Rattle.image.specs.LayoutLaws.{sides-small}
 use Rattle.image.specs.Plane.{picture}
 use Rattle.imgproc.specs.declared.threshold.SauvolaConfig.{SauvolaConfig}
 use Rattle.imgproc.specs.Fold.{Box, foldBox}
@@ -70,7 +71,7 @@ span-long r n x x0 x1 l p q = omega arith
 pub record WindowSums (d : List ℕ) (g : Geometry) (ws : List ℕ) (base : ℕ) (config : SauvolaConfig) (x y x0 x1 y0 y1 : ℕ) : Type 0 where
   pub sum-corners : Corners ws base (g .width + 1) x0 y0 x1 y1
   pub square-corners : Corners ws (base + (g .width + 1) * (g .height + 1)) (g .width + 1) x0 y0 x1 y1
-  pub count-fits : (x1 - x0) * (y1 - y0) ≤ sideLimit * sideLimit
+  pub count-fits : (x1 - x0) * (y1 - y0) ≤ areaLimit
   pub sane : (S Q : ℕ) → S ≡ cornerSum ws base (g .width + 1) x0 y0 x1 y1 → Q ≡ cornerSum ws (base + (g .width + 1) * (g .height + 1)) (g .width + 1) x0 y0 x1 y1 → Sane S Q ((x1 - x0) * (y1 - y0))
   pub threshold-is :
       (S Q : ℕ)
@@ -113,11 +114,11 @@ module _
         facts (squared f) ws (base + (g .width + 1) * (g .height + 1)) (g .width) (g .height) x0 x1 y0 y1 (R .tables .squares) squares (omega (arith, R .tables .room))
         (R .layout .small-width) (R .layout .small-height) (omega (arith, spans)) (omega (arith, spans)) (omega (arith, spans)) (omega (arith, spans))
 
-    small-count : (x1 - x0) * (y1 - y0) ≤ sideLimit * sideLimit
+    small-count : (x1 - x0) * (y1 - y0) ≤ areaLimit
     small-count =
         let u = R .layout .small-width in
         let v = R .layout .small-height in
-        mul-le-mul {n₂ = sideLimit} {m₂ = sideLimit} (omega (arith, spans)) (omega (arith, spans))
+        sides-small (x1 - x0) (y1 - y0) (omega (arith, spans)) (omega (arith, spans))
 
     -- the sums that `rect_sum` gave
     module _ (S Q : ℕ) (s : S ≡ cornerSum ws base (g .width + 1) x0 y0 x1 y1) (q : Q ≡ cornerSum ws (base + (g .width + 1) * (g .height + 1)) (g .width + 1) x0 y0 x1 y1) where

@@ -10,6 +10,7 @@ use lib.ListN.{length, getD, set}
 use lib.Seq.{getD-set-same, getD-set-other}
 use borrow.Author.Count.{below-more}
 use borrow.Author.Tests.{le-leb, lt-leb}
+use Rattle.image.specs.Layout.{areaLimit}
 use Rattle.image.specs.declared.Geometry.{Geometry}
 use Rattle.image.specs.Plane.{pixel, picture}
 use Rattle.image.specs.PlaneLaws.{length-tabulate, getD-tabulate, in-plane, pixel-plane}
@@ -156,7 +157,7 @@ module _ (s : ReadingConfig) (g : Geometry) (o : List ℕ) (W : 0 < g .width) wh
   }
 
   -- no count passes the pixels of its rows, so there is room for one row more
-  pub room-for-row : (c : Judged) (y : ℕ) → RowsCounted s g o c y → y < g .height → g .width * g .height ≤ 16777216 → Room c (g .width)
+  pub room-for-row : (c : Judged) (y : ℕ) → RowsCounted s g o c y → y < g .height → g .width * g .height ≤ areaLimit → Room c (g .width)
   room-for-row c y r t a =
       let n : g .width * y + g .width ≤ g .width * g .height = omega (arith, row-in-plane (g .width) (g .height) y t, mul-comm (g .width) y) in
       record {

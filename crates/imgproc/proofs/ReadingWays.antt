@@ -1,9 +1,7 @@
 -- What accepted settings and room of a reading say, and its contract by the way out. Assumes nothing.
 use mathlib.Core.Path.{_≡_, refl, ap, _∙_}
 use mathlib.Core.Bool.{_||_}
-use mathlib.Core.List.{List}
 use Prim.Native.Nat.{ℕ, _+_, _*_, _≤_, _<_}
-use native.Mathlib.Nat.{mul-le-mul}
 use native.Mathlib.Omega.{arith}
 use lib.Dec.{ltb}
 use lib.ListN.{length}
@@ -18,9 +16,7 @@ use Rattle.imgproc.specs.declared.ImgProcError.the-variants.{InvalidKern
 use Rattle.imgproc.specs.declared.Check.the-variants.{Accepted, Refused}
 use Rattle.imgproc.specs.Refusals.{errorNumber, Conditions, first, _then_, refusedIf, badKernel, divisionSettings, sauvolaSettings, tableEntries}
 use Rattle.imgproc.specs.GridCalls.{gridSettings, tileCount}
-use Rattle.imgproc.specs.GridLaws.{ceiling-small}
 use Rattle.imgproc.specs.Tables.{InRange}
-use Rattle.imgproc.specs.Tiles.{Sized}
 use Rattle.imgproc.specs.Reading.{readingSettings, readingRoom, ReadingLent, ReadingLeft, numbersOf, Reads}
 use Rattle.imgproc.specs.ReadingSteps.{ReadDone}
 use Rattle.imgproc.specs.RefusalLaws.{then-accepted, both-accepted, not-refused, kernel-says, division-says}
@@ -56,19 +52,6 @@ says s p =
     }
 
 -- ---- the workspaces
-module _ (g : Geometry) (s : ReadingConfig) (z : Sized (s .grid) (g .width) (g .height)) where
-  pub tiles-small : tileCount (s .grid) (g .width) (g .height) ≤ 16777216
-  tiles-small =
-      let across = ceiling-small (g .width) (s .grid .«tile_width») (z .tile-width) in
-      let down = ceiling-small (g .height) (s .grid .«tile_height») (z .tile-height) in
-      mul-le-mul {n₂ = 4096} {m₂ = 4096} (omega (arith, z .small-width)) (omega (arith, z .small-height))
-
-  pub area-small : g .width * g .height ≤ 16777216
-  area-small = mul-le-mul (z .small-width) (z .small-height)
-
-  pub entries-small : (g .width + 1) * (g .height + 1) ≤ 16785409
-  entries-small = mul-le-mul {n₂ = 4097} {m₂ = 4097} (omega (arith, z .small-width)) (omega (arith, z .small-height))
-
 module _ (g : Geometry) (s : ReadingConfig) (bytes words t : ℕ) (is : t ≡ tileCount (s .grid) (g .width) (g .height)) where
   pub bytes-short : bytes < 9 * (g .width * g .height) + 2 * t → Refused WorkspaceTooSmall ≡ first (readingRoom g s bytes words)
   unfolding first

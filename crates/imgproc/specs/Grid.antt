@@ -5,6 +5,7 @@ use mathlib.Core.List.{List}
 use lib.Dec.{ltb}
 use lib.IntN.{ℤ, pos, negsuc, _+ℤ_}
 use lib.Ieee.{Float, fin, binary64, ofInt, add, sub, mul, div, lt, le}
+use Rattle.image.specs.Layout.{areaLimit}
 use Rattle.image.specs.Plane.{tabulate, pixel}
 use Rattle.imgproc.specs.declared.grid.TileThresholdConfig.{TileThresholdConfig}
 use Rattle.imgproc.specs.declared.grid.TileThresholdMethod.{TileThresholdMethod}
@@ -25,6 +26,10 @@ tilesX g w = ceiling w (g .«tile_width»)
 -- tiles_y = ⌈h / tile_height⌉
 abbrev pub tilesY : TileThresholdConfig → ℕ → ℕ
 tilesY g h = ceiling h (g .«tile_height»)
+
+-- the most tiles of a grid: tiles of one pixel
+abbrev pub tilesLimit : ℕ
+tilesLimit = areaLimit
 
 -- the first sample of tile i, along an axis with tiles of t samples
 abbrev pub tileFrom : ℕ → ℕ → ℕ

@@ -129,11 +129,11 @@ pub record Fills (src : List ℕ) (s : Geometry) (g : TileThresholdConfig) (ws t
 
 -- ---- queries
 
--- a side outside 1..4096
+-- a side of 0 or above the limit
 abbrev pub badSide : ℕ → Bool
 badSide n = eqb n 0 || ltb sideLimit n
 
--- sides outside 1..4096, zero tile sides or tile counts that are not the ceilings
+-- sides of 0 or above the limit, zero tile sides or tile counts that are not the ceilings
 unfoldable pub badGrid : TileThresholdGrid → Bool
 badGrid q =
     badSide (q .width) ||

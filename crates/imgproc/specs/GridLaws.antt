@@ -7,10 +7,12 @@ use native.Mathlib.Omega.{arith}
 use mathlib.Core.Bool.{false}
 use mathlib.Core.List.{List}
 use borrow.Author.Tests.{le-ltb}
+use Rattle.image.specs.Layout.{sideLimit}
+use Rattle.image.specs.LayoutLaws.{sides-small}
 use Rattle.image.specs.Plane.{pixel}
 use Rattle.imgproc.specs.declared.grid.TileThresholdConfig.{TileThresholdConfig}
 use Rattle.imgproc.specs.Reach.{low, high, ceiling}
-use Rattle.imgproc.specs.Grid.{tilesX, tilesY, tileFrom, tileTo, around, least, most, skipOf}
+use Rattle.imgproc.specs.Grid.{tilesX, tilesY, tilesLimit, tileFrom, tileTo, around, least, most, skipOf}
 use Rattle.imgproc.specs.Extremes.{Near, Between, Inside, Some}
 
 -- ---- tile counts
@@ -36,6 +38,12 @@ ceiling-small n t T = omega (arith, div-lt-iff-lt-mul {k = t} {x = n + t - 1} {y
 
 pub ceiling-some : (n t : ℕ) → 0 < t → 0 < n → 0 < ceiling n t
 ceiling-some n t T N = le-div-iff-mul-le {k = t} {x = 1} {y = n + t - 1} T .1 (omega arith)
+
+-- a picture within the side limit has no more tiles than the limit
+pub tiles-small : {w h s t tx ty : ℕ} → tx ≡ ceiling w s → ty ≡ ceiling h t → 0 < s → 0 < t → w ≤ sideLimit → h ≤ sideLimit
+    → tx * ty ≤ tilesLimit
+tiles-small {w} {h} {s} {t} {tx} {ty} X Y S T W H =
+    sides-small tx ty (omega (arith, X, W, ceiling-small w s S)) (omega (arith, Y, H, ceiling-small h t T))
 
 -- ---- skips
 

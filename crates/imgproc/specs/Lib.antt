@@ -20,6 +20,9 @@ pub mod SauvolaLaws
 pub mod Tables
 pub mod Root
 pub mod RootParts
+pub mod RootLaws
+pub mod RootNear
+pub mod RootBest
 pub mod Grid
 pub mod Tiles
 pub mod GridLaws

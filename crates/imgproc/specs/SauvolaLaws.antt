@@ -1,15 +1,21 @@
 -- What makes the definitions of part 6 believable: which pixels a window holds, that no subtraction is cut off, and that the spread is the largest. Assumes nothing.
 use Prim.Native.Nat.{ℕ, _+_, _-_, _*_, _/_, _≤_, _<_}
-use native.Mathlib.Nat.{mul-pos}
+use native.Mathlib.Nat.{mul-pos, mul-le-mul}
 use native.Mathlib.Omega.{arith}
 use mathlib.Core.Path.{sym, subst}
 use mathlib.Core.Logic.{_↔_}
+use Rattle.image.specs.Layout.{sideLimit}
 use Rattle.imgproc.specs.Fold.{Box}
 use Rattle.imgproc.specs.Extremes.{Near, Inside, Some}
 use Rattle.imgproc.specs.Sums.{sum, sumSquares, count, squared}
 use Rattle.imgproc.specs.SumLaws.{fold-box-sum, count-is, mean-square}
 use Rattle.imgproc.specs.WholeRoot.{IsRoot, wholeRoot-is}
+use Rattle.imgproc.specs.Tables.{entriesLimit}
 use Rattle.imgproc.specs.Sauvola.{window, mean, variance, spread}
+
+-- the entries of a table of a picture within the side limit are within theirs
+pub entries-small : (w h : ℕ) → w ≤ sideLimit → h ≤ sideLimit → (w + 1) * (h + 1) ≤ entriesLimit
+entries-small w h W H = mul-le-mul {n₂ = sideLimit + 1} {m₂ = sideLimit + 1} (omega arith) (omega arith)
 
 module _ (r w h x y : ℕ) (X : x < w) (Y : y < h) where
   -- the window of (x, y) holds just the pixels of the picture within the radius on both axes

@@ -4,11 +4,15 @@ use mathlib.Core.Path.{_≡_}
 use mathlib.Core.List.{List}
 use lib.ListN.{length, getD}
 use Rattle.image.specs.declared.Geometry.{Geometry}
-use Rattle.image.specs.Layout.{Kept}
+use Rattle.image.specs.Layout.{Kept, sideLimit}
 use Rattle.image.specs.Plane.{pixel, picture}
 use Rattle.imgproc.specs.declared.threshold.SauvolaConfig.{SauvolaConfig}
 use Rattle.imgproc.specs.Refusals.{tableEntries}
 use Rattle.imgproc.specs.Sums.{squared, boxSum}
+
+-- the most entries of a table
+abbrev pub entriesLimit : ℕ
+entriesLimit = (sideLimit + 1) * (sideLimit + 1)
 
 -- pixel (x, y) of the packed picture
 abbrev pub pixelsOf : List ℕ → Geometry → ℕ → ℕ → ℕ

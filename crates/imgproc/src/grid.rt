@@ -11,9 +11,9 @@ use image::Layout;
 ghost use mathlib.Core.Path.{_≡_};
 ghost use Prim.Native.Nat.{_*_, _≤_, _<_};
 ghost use lib.ListN.{length};
-ghost use Rattle.image.specs.Layout.{Kept};
+ghost use Rattle.image.specs.Layout.{Kept, sideLimit};
 ghost use Rattle.imgproc.specs.Refusals.{first, _then_};
-ghost use Rattle.imgproc.specs.Grid.{gridDefaults, thresholds, skips};
+ghost use Rattle.imgproc.specs.Grid.{gridDefaults, tilesLimit, thresholds, skips};
 ghost use Rattle.imgproc.specs.Tiles.{Sized};
 ghost use Rattle.imgproc.specs.GridCalls.{usableMethod, gridSettings, tileCount, gridRoom, Rooms, Fills, Builds, builtAnswer, tileThresholdAnswer, tileSkipAnswer, thresholdAsked, skipAsked, rowSkipAsked};
 
@@ -106,7 +106,7 @@ pub(crate) fn check_settings(config: TileThresholdConfig) -> Check
 
 // Whether the lent buffers hold `count` tiles.
 fn check_room(count: usize, room: usize, threshold_room: usize, skip_room: usize) -> Check
-    requires { ⌜ count ≤ 16777216 ⌝ }
+    requires { ⌜ count ≤ tilesLimit ⌝ }
     ensures { λ r. ⌜ r ≡ first (gridRoom count room «threshold_room» «skip_room») ⌝ }
 {
     if room < 5 * count {
@@ -129,7 +129,7 @@ fn check_build(
     threshold_room: usize,
     skip_room: usize,
 ) -> Check
-    requires { ⌜ (0 < geometry .width) × (geometry .width ≤ 4096) × (0 < geometry .height) × (geometry .height ≤ 4096) ⌝ }
+    requires { ⌜ (0 < geometry .width) × (geometry .width ≤ sideLimit) × (0 < geometry .height) × (geometry .height ≤ sideLimit) ⌝ }
     ensures { λ r. ⌜ r ≡ first (gridSettings config then gridRoom (tileCount config (geometry .width) (geometry .height)) room «threshold_room» «skip_room») ⌝ }
 {
     let settings = check_settings(config);

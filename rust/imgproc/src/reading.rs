@@ -217,7 +217,7 @@ pub struct ReadingWorkspace {
 
 impl ReadingWorkspace {
     /// Checks the geometry and the settings, then allocates: for a picture without padding about 25 bytes a pixel with
-    /// the default tiles. At the largest sides, 4096, that is some 420 MB.
+    /// the default tiles. At the largest sides that is some 420 MB.
     ///
     /// # Errors
     ///

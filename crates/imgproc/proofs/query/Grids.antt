@@ -2,7 +2,7 @@
 use mathlib.Core.Path.{_≡_, refl, sym, ap, _∙_}
 use mathlib.Core.Bool.{Bool, true, false, not, _&&_}
 use Prim.Native.Nat.{ℕ, suc, _+_, _-_, _*_, _/_, _≤_, _<_}
-use native.Mathlib.Nat.{pos-of-ne-zero, mul-le-mul, mul-le-mul-right, suc-mul, mul-comm, le-div-iff-mul-le, div-mul-le-self}
+use native.Mathlib.Nat.{pos-of-ne-zero, mul-le-mul-right, suc-mul, mul-comm, le-div-iff-mul-le, div-mul-le-self}
 use native.Mathlib.Omega.{arith}
 use lib.Dec.{ltb, eqb}
 use borrow.Author.Tests.{ltb-true, ltb-false, eqb-true, eqb-false}
@@ -17,7 +17,8 @@ use Rattle.imgproc.specs.declared.grid.TileThresholdGrid.{TileThresholdG
 use Rattle.imgproc.specs.declared.query.TilePlace.{TilePlace}
 use Rattle.imgproc.specs.declared.query.TilePlace.the-variants.{At, Refused as TilePlace·Refused}
 use Rattle.imgproc.specs.Reach.{ceiling}
-use Rattle.imgproc.specs.GridLaws.{ceiling-small}
+use Rattle.imgproc.specs.Grid.{tilesLimit}
+use Rattle.imgproc.specs.GridLaws.{tiles-small}
 use Rattle.imgproc.specs.GridCalls.{badSide, badGrid, queryConditions, pixelConditions, rowConditions, placeBy, tileOf, tileRowOf, pixelPlace, rowPlace, placeRefusal}
 use Rattle.imgproc.specs.Refusals.{errorNumber, first, _then_, refusedIf, answerBy}
 use Rattle.image.specs.Answers.{accepted, refused}
@@ -56,12 +57,9 @@ sound q e =
       down = eqb-true _ _ (held _ (n6 .1));
     }
 
--- it has at most 2^24 tiles
-pub few-tiles : {q : TileThresholdGrid} → Sound q → q .«tiles_x» * q .«tiles_y» ≤ 16777216
-few-tiles {q} s =
-    mul-le-mul {n₁ = q .«tiles_x»} {m₁ = q .«tiles_y»} {n₂ = 4096} {m₂ = 4096}
-    (omega (arith, s .across, s .small-width, ceiling-small (q .width) (q .«tile_width») (s .tile-width)))
-    (omega (arith, s .down, s .small-height, ceiling-small (q .height) (q .«tile_height») (s .tile-height)))
+-- its tiles are within their limit
+pub few-tiles : {q : TileThresholdGrid} → Sound q → q .«tiles_x» * q .«tiles_y» ≤ tilesLimit
+few-tiles s = tiles-small (s .across) (s .down) (s .tile-width) (s .tile-height) (s .small-width) (s .small-height)
 
 -- the tile of a sample is one of the axis
 tile-within : (n t i : ℕ) → 0 < t → i < n → i / t < ceiling n t

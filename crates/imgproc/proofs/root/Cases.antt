@@ -3,29 +3,22 @@ use mathlib.Core.Path.{_≡_, refl, sym, ap, _∙_, subst}
 use mathlib.Core.Logic.{inl, inr}
 use Prim.Native.Nat.{ℕ, zero, suc, _+_, _-_, _*_, _/_, _%_, _^_, _≤_, _<_, compare}
 use native.Mathlib.Omega.{arith}
-use native.Mathlib.Nat.{le-trans, le-of-eq, lt-of-le-of-lt, lt-of-lt-of-le, eq-zero-or-pos, zero-mul, mul-one, mul-pos, zero-lt-suc}
+use native.Mathlib.Nat.{le-of-eq, lt-of-le-of-lt, lt-of-lt-of-le, eq-zero-or-pos, zero-mul, mul-one, mul-pos, zero-lt-suc}
 use mathlib.Core.Bool.{Bool, true, false, not, cond, true≢false, Bool·beq, _&&_, _||_}
 use lib.IntN.{ℤ, pos}
 use lib.Dec.{T, leb, eqb, ltb, nleb→lt, lt→ltb, eqb→eq}
 use lib.Pow.{pow-pos}
 use lib.Ieee.{Float, nan, inf, fin, binary64, up, down, size, nearest, odd, units, fits, isNan, ofFields, ofBits, toBits, nanBits, lt, eq, level}
 use lib.Ieee.Bits.{ofBits-toBits, nanBits-is, is-true}
-use lib.Ieee.Fits.{nearest-le, kept-lt, up-pos}
+use lib.Ieee.Fits.{up-pos}
 use Rattle.imgproc.specs.WholeRoot.{wholeRoot}
 use Rattle.imgproc.specs.Root.{nearestRoot, rootOf}
 use Rattle.imgproc.specs.RootParts.{unitsAt}
 use Rattle.imgproc.proofs.root.Scale.{units-low, units-high}
-use Rattle.imgproc.proofs.root.Near.{nearestRoot-eq}
-use Rattle.imgproc.proofs.root.Pack.{ofBits-is, value-at, root-at, units-fits}
+use Rattle.imgproc.specs.RootLaws.{nearestRoot-eq, root-at, nearest-fits}
+use Rattle.imgproc.proofs.root.Pack.{ofBits-is, value-at}
 
--- ---- the nearest root is a value of the format, and no NaN
-nearest-fits : (n : ℕ) → T (fits binary64 (nearestRoot n))
-nearest-fits n =
-    let w = wholeRoot n in
-    let k = size w - 53 in
-    let o = compare (4 * n) ((2 * (w / 2 ^ k) + 1) * 2 ^ k * ((2 * (w / 2 ^ k) + 1) * 2 ^ k)) in
-    subst (λ (x : Float). T (fits binary64 x)) (sym (nearestRoot-eq n)) (units-fits (nearest (w / 2 ^ k) o) k (le-trans (nearest-le (w / 2 ^ k) o) (kept-lt 53 w)))
-
+-- ---- the nearest root is no NaN
 odd-real : (d q k l : ℕ) → isNan (odd d false q k l) ≡ false
 unfolding odd isNan
 odd-real d zero k l = refl

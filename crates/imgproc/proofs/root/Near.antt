@@ -5,29 +5,14 @@ use mathlib.Core.Logic.{_⊎_, inl, inr}
 use Prim.Native.Nat.{ℕ, zero, suc, _+_, _-_, _*_, _/_, _%_, _^_, _≤_, _<_, compare, Ordering, Ordering·lt, Ordering·eq, Ordering·gt}
 use native.Mathlib.Omega.{arith}
 use native.Mathlib.Nat.{le-antisymm, le-trans, le-of-eq, lt-of-not-le, not-le-of-lt, lt-of-lt-of-le, mul-le-mul-right, mul-lt-mul-of-pos-right, mul-pos, div-mul-le-self, lt-div-mul-add}
-use mathlib.Core.Bool.{false, not}
-use lib.Dec.{T, isLe, isEq, eqb, leb→le, nleb→lt, eqb→eq, eqb-refl}
-use lib.Arith.{lt-of-le-ne}
+use mathlib.Core.Bool.{false}
 use lib.Pow.{pow-pos, pow-add, pow-mono, shr-shr}
-use lib.Ieee.{Float, binary64, size, nearest, units}
+use lib.Ieee.{binary64, size, nearest, units}
 use lib.Ieee.Digits.{size-lt, size-le}
 use Rattle.imgproc.specs.WholeRoot.{IsRoot, wholeRoot, wholeRoot-is}
 use Rattle.imgproc.specs.Root.{nearestRoot}
+use Rattle.imgproc.specs.RootLaws.{Cmp, cmp, from, nearestRoot-eq}
 use Rattle.imgproc.proofs.root.Whole.{root-one, root-drop}
-
--- ---- what `compare` says
-abbrev pub Cmp : Ordering → ℕ → ℕ → Type 0
-Cmp Ordering·lt a b = a < b
-Cmp Ordering·eq a b = a ≡ b
-Cmp Ordering·gt a b = b < a
-
-pub cmp : (a b : ℕ) → Cmp (compare a b) a b
-cmp a b = go (compare a b) (leb→le a b) (nleb→lt a b) (eqb→eq a b) (λ (e : a ≡ b). subst (λ (x : ℕ). T (eqb a x)) e (eqb-refl a))
-  where
-    go : (o : Ordering) → (T (isLe o) → a ≤ b) → (T (not (isLe o)) → b < a) → (T (isEq o) → a ≡ b) → (a ≡ b → T (isEq o)) → Cmp o a b
-    go Ordering·lt h k e n = lt-of-le-ne (h tt) n
-    go Ordering·eq h k e n = e tt
-    go Ordering·gt h k e n = k tt
 
 -- ---- r's last digit says which of r / 2 and r / 2 + 1 is nearer
 abbrev Side : ℕ → ℕ → ℕ → Type 0
@@ -73,14 +58,6 @@ scaled r M B x X (inr z) = inr (z .0, omega (arith, mul-lt-mul-of-pos-right (z .
 -- ---- a number's digits
 pub size-is : (a n : ℕ) → 2 ^ a ≤ n → n < 2 ^ suc a → size n ≡ suc a
 size-is a n lo hi = le-antisymm (size-le n (suc a) hi) (lt-of-not-le (λ (g : size n ≤ a). not-le-of-lt (lt-of-lt-of-le (size-lt n) (pow-mono g)) lo))
-
--- ---- `nearestRoot`, from its w and its k on
-abbrev pub from : ℕ → ℕ → ℕ → Float
-from n w k = units binary64 false (nearest (w / 2 ^ k) (compare (4 * n) ((2 * (w / 2 ^ k) + 1) * 2 ^ k * ((2 * (w / 2 ^ k) + 1) * 2 ^ k)))) k
-
-pub nearestRoot-eq : (n : ℕ) → nearestRoot n ≡ from n (wholeRoot n) (size (wholeRoot n) - 53)
-unfolding nearestRoot
-nearestRoot-eq n = refl
 
 module _ (M N r j : ℕ) (even : M ≡ 2 * N) (root : IsRoot M r) (lo : 2 ^ 53 ≤ r) (hi : r < 2 ^ 54) where
   w : ℕ

@@ -3,17 +3,18 @@ use mathlib.Core.Path.{_≡_, refl, sym, ap, _∙_, subst}
 use mathlib.Core.Logic.{inl, inr}
 use Prim.Native.Nat.{ℕ, zero, suc, _+_, _-_, _*_, _/_, _%_, _^_, _≤_, _<_}
 use native.Mathlib.Omega.{arith}
-use native.Mathlib.Nat.{le-trans, le-of-eq, le-refl, lt-of-lt-of-le, lt-of-le-of-lt, lt-of-not-le, not-le-of-lt, eq-or-lt-of-le, mod-eq-of-lt, mul-one, zero-mul, mul-assoc, mul-right-comm, mul-le-mul, mul-le-mul-left, mul-le-mul-right, mul-pos, mul-div-cancel}
+use native.Mathlib.Nat.{le-trans, le-of-eq, le-refl, lt-of-lt-of-le, lt-of-le-of-lt, lt-of-not-le, not-le-of-lt, eq-or-lt-of-le, mod-eq-of-lt, mul-one, mul-assoc, mul-le-mul, mul-le-mul-left, mul-le-mul-right, mul-pos, mul-div-cancel}
 use mathlib.Core.Bool.{Bool, true, false, cond, true≢false}
-use lib.Dec.{T, leb, eqb, ltb, ltb→lt, leb→le, eqb→eq, not-T, lit<}
-use lib.Pow.{pow-pos, pow-add, pow-mono, pow-lt, shl-lt, shl-shr}
-use lib.Ieee.{Float, nan, inf, fin, binary64, low, up, down, size, odd, units, fits, ofFields, ofBits, toBits}
+use lib.Dec.{T, leb, eqb, leb→le, eqb→eq, not-T, lit<}
+use lib.Pow.{pow-pos, pow-add, pow-lt, shl-lt, shl-shr}
+use lib.Ieee.{Float, nan, inf, fin, binary64, low, down, size, odd, units, ofFields, ofBits, toBits}
 use lib.Ieee.Bits.{is-false, cond-no}
-use lib.Ieee.Fits.{down-pos, odd-fits}
+use lib.Ieee.Fits.{down-pos}
 use lib.Ieee.Exact.{HasValue, odd-sign, units-val}
 use lib.Ieee.Positive.{first-pos}
 use Rattle.imgproc.specs.Root.{nearestRoot, rootOf}
 use Rattle.imgproc.specs.RootParts.{unitsAt, Parted}
+use Rattle.imgproc.specs.RootLaws.{root-at, in-range}
 use Rattle.imgproc.proofs.root.Scale.{units-low, units-high}
 use Rattle.imgproc.specs.WholeRoot.{IsRoot}
 use Rattle.imgproc.proofs.root.Near.{near, size-is}
@@ -64,19 +65,6 @@ value-at b k = go (b / 4503599627370496) refl
         (ap (λ (x : ℕ). (4503599627370496 + t) * 2 ^ x) (sym q) ∙ sym (units-high b p))
         (odd-sign 53 false (4503599627370496 + t) f 1074))
 
--- ---- `rootOf` of a value that is a units
-none : (a c d : ℕ) → 0 < a → 0 < d → 0 ≡ a * d → ⊥
-none a c d A D e = omega (arith, mul-pos A D)
-
-pub root-at : (x : Float) (a : ℕ) → 0 < a → HasValue x false a (2 ^ 1074) → rootOf x ≡ nearestRoot (a * 2 ^ 1074)
-unfolding rootOf
-root-at nan a A h = absurd h
-root-at (inf s) a A h = absurd h
-root-at (fin true zero e) a A h = absurd (true≢false (h .0))
-root-at (fin true (suc m) e) a A h = absurd (true≢false (h .0))
-root-at (fin false zero e) a A h = absurd (none a 0 (down e) A (down-pos e) (sym (zero-mul (2 ^ 1074)) ∙ ap (λ (x : ℕ). x * 2 ^ 1074) (sym (zero-mul (up e))) ∙ h .1))
-root-at (fin false (suc m) e) a A h = ap nearestRoot (ap (λ (x : ℕ). x / down e) (ap (λ (x : ℕ). x * 2 ^ 1074) (h .1) ∙ mul-right-comm a (down e) (2 ^ 1074)) ∙ mul-div-cancel (a * 2 ^ 1074) (down-pos e))
-
 -- ---- the pattern of a value that is a units
 toBits-at : (v : Float) (a : ℕ) → HasValue v false a (2 ^ 1074) → toBits binary64 v ≡ 0 + (size a - 53) * 4503599627370496 + a / 2 ^ (size a - 53)
 unfolding toBits
@@ -102,22 +90,11 @@ packed-at h k lo hi =
           ap (λ (x : ℕ). x * 4503599627370496 + h * 2 ^ k / 2 ^ x) z ∙ ap (λ (x : ℕ). k * 4503599627370496 + x) (shl-shr h k)
     ]
 
-pub in-range : (h k : ℕ) → h ≤ 9007199254740992 → k ≤ 2000 → h * 2 ^ k < 2 ^ (1074 + 1024)
-in-range h k hi K = lt-of-lt-of-le (shl-lt {a = h} 54 k (lt-of-le-of-lt hi (lit< tt))) (pow-mono {i = 54 + k} {j = 1074 + 1024} (omega arith))
-
 pub packed : (h k : ℕ) → 4503599627370496 ≤ h → h ≤ 9007199254740992 → k ≤ 2000 → toBits binary64 (units binary64 false h k) ≡ k * 4503599627370496 + h
 packed h k lo hi K = toBits-at (units binary64 false h k) (h * 2 ^ k) (units-val binary64 false h k (in-range h k hi K)) ∙ ap (λ (x : ℕ). x + h * 2 ^ k / 2 ^ (size (h * 2 ^ k) - 53)) (nothing ((size (h * 2 ^ k) - 53) * 4503599627370496)) ∙ packed-at h k lo hi
   where
     nothing : (x : ℕ) → 0 + x ≡ x
     nothing x = omega arith
-
-pub units-fits : (h k : ℕ) → h ≤ 9007199254740992 → T (fits binary64 (units binary64 false h k))
-unfolding units
-units-fits q k a = go (ltb (q * 2 ^ k) (2 ^ (1074 + 1024))) (ltb→lt (q * 2 ^ k) (2 ^ (1074 + 1024)))
-  where
-    go : (b : Bool) → (T b → q * 2 ^ k < 2 ^ (1074 + 1024)) → T (fits binary64 (cond b (odd 54 false q k 1074) (inf false)))
-    go true h = odd-fits binary64 54 false q k (lt-of-le-of-lt a (lit< tt)) a (h tt)
-    go false h = unfold fits in tt
 
 -- ---- all together
 doubled : (m e h d : ℕ) → e ≡ 54 + (h + h) + d → d < 2 → (m + m * d) * 18014398509481984 * (2 ^ h * 2 ^ h) ≡ m * 2 ^ e

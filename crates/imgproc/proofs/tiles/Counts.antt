@@ -3,11 +3,9 @@ use mathlib.Core.Path.{_≡_, ap₂}
 use Prim.Native.Nat.{ℕ, _*_, _/_, _%_, _≤_, _<_}
 use native.Mathlib.Nat.{mod-lt, div-lt-iff-lt-mul, mul-comm}
 use native.Mathlib.Omega.{arith}
-use Rattle.image.specs.Layout.{areaLimit}
-use Rattle.image.specs.LayoutLaws.{sides-small}
 use Rattle.imgproc.specs.declared.grid.TileThresholdConfig.{TileThresholdConfig}
-use Rattle.imgproc.specs.Grid.{tilesX, tilesY}
-use Rattle.imgproc.specs.GridLaws.{ceiling-small, ceiling-some}
+use Rattle.imgproc.specs.Grid.{tilesX, tilesY, tilesLimit}
+use Rattle.imgproc.specs.GridLaws.{ceiling-some, tiles-small}
 use Rattle.imgproc.specs.Tiles.{Sized}
 
 module _ {g : TileThresholdConfig} {w h : ℕ} (z : Sized g w h) {tx ty : ℕ} (X : tx ≡ tilesX g w) (Y : ty ≡ tilesY g h) where
@@ -17,11 +15,8 @@ module _ {g : TileThresholdConfig} {w h : ℕ} (z : Sized g w h) {tx ty : ℕ} (
   pub some : 0 < tx
   some = omega (arith, ceiling-some w (g .«tile_width») (z .tile-width) (z .wide))
 
-  pub few : tx * ty ≤ areaLimit
-  few =
-      sides-small tx ty
-      (omega (arith, ceiling-small w (g .«tile_width») (z .tile-width), z .small-width))
-      (omega (arith, ceiling-small h (g .«tile_height») (z .tile-height), z .small-height))
+  pub few : tx * ty ≤ tilesLimit
+  few = tiles-small X Y (z .tile-width) (z .tile-height) (z .small-width) (z .small-height)
 
   -- the tile with number t
   pub column : (t : ℕ) → t % tx < tilesX g w

@@ -1,10 +1,16 @@
 -- The two workspaces: each way out is one law, and nothing wraps. Assumes nothing.
 use borrow.Author.Needs.{needs}
 use native.Mathlib.Omega.{arith}
-use Prim.Native.Nat.{ℕ, _*_}
-use mathlib.Core.Path.{_≡_, ap₂}
+use Prim.Native.Nat.{_+_, _*_, _≤_}
+use mathlib.Core.Path.{_≡_}
+use Rattle.image.specs.Layout.{areaLimit}
+use Rattle.image.specs.LayoutLaws.{sides-small}
+use Rattle.imgproc.specs.Grid.{tilesLimit}
 use Rattle.imgproc.specs.GridCalls.{tileCount}
-use Rattle.imgproc.proofs.ReadingWays.{tiles-small, area-small, entries-small, bytes-short, words-short, room-enough}
+use Rattle.imgproc.specs.SauvolaLaws.{entries-small}
+use Rattle.imgproc.specs.Tables.{entriesLimit}
+use Rattle.imgproc.proofs.tiles.Counts.{total, few}
+use Rattle.imgproc.proofs.ReadingWays.{bytes-short, words-short, room-enough}
 use Rattle.imgproc.proofs.reading.check_room.Statement.{statement}
 use Rattle.imgproc.proofs.reading.check_room.Tie as tie
 
@@ -12,7 +18,17 @@ abbrev start : tie.After-tiles2 → tie.Start
 start t = t .before .before .before
 
 count : (t : tie.After-tiles2) → t .before .tiles .result * t .tiles2 .result ≡ tileCount (start t .args .config .grid) (start t .args .geometry .width) (start t .args .geometry .height)
-count t = ap₂ (λ (x y : ℕ). x * y) (t .before .tiles .ensures) (t .tiles2 .ensures)
+count t = total (start t .pre) (t .before .tiles .ensures) (t .tiles2 .ensures)
+
+-- tiles, pixels and entries are within their limits
+tiles : (t : tie.After-tiles2) → t .before .tiles .result * t .tiles2 .result ≤ tilesLimit
+tiles t = few (start t .pre) (t .before .tiles .ensures) (t .tiles2 .ensures)
+
+area : (t : tie.After-tiles2) → start t .args .geometry .width * start t .args .geometry .height ≤ areaLimit
+area t = sides-small _ _ (start t .pre .small-width) (start t .pre .small-height)
+
+entries : (t : tie.After-tiles2) → (start t .args .geometry .width + 1) * (start t .args .geometry .height + 1) ≤ entriesLimit
+entries t = entries-small _ _ (start t .pre .small-width) (start t .pre .small-height)
 
 tiles-requires : tie.Need-tiles-requires
 tiles-requires c κs = search needs
@@ -21,19 +37,19 @@ tiles-requires-2 : tie.Need-tiles-requires-2
 tiles-requires-2 c κs = search needs
 
 mul-count : tie.Need-mul-count
-mul-count t = omega (arith, count t, tiles-small (start t .args .geometry) (start t .args .config) (start t .pre))
+mul-count t = omega (arith, tiles t)
 
 mul-if1 : tie.Need-mul-if1
-mul-if1 t = omega (arith, area-small (start t .args .geometry) (start t .args .config) (start t .pre))
+mul-if1 t = omega (arith, area t)
 
 mul-if1-2 : tie.Need-mul-if1-2
-mul-if1-2 t = omega (arith, area-small (start t .args .geometry) (start t .args .config) (start t .pre))
+mul-if1-2 t = omega (arith, area t)
 
 mul-if1-3 : tie.Need-mul-if1-3
-mul-if1-3 t = omega (arith, count t, tiles-small (start t .args .geometry) (start t .args .config) (start t .pre))
+mul-if1-3 t = omega (arith, tiles t)
 
 add-if1 : tie.Need-add-if1
-add-if1 t = omega (arith, count t, tiles-small (start t .args .geometry) (start t .args .config) (start t .pre), area-small (start t .args .geometry) (start t .args .config) (start t .pre))
+add-if1 t = omega (arith, tiles t, area t)
 
 returns : tie.Need-returns
 returns c = let t = c .before in bytes-short (start t .args .geometry) (start t .args .config) _ _ _ (count t) (c .if1 .taken)
@@ -45,16 +61,16 @@ add-if2-2 : tie.Need-add-if2-2
 add-if2-2 c = search needs
 
 mul-if2 : tie.Need-mul-if2
-mul-if2 c = let t = c .before in omega (arith, entries-small (start t .args .geometry) (start t .args .config) (start t .pre))
+mul-if2 c = let t = c .before in omega (arith, entries t)
 
 mul-if2-2 : tie.Need-mul-if2-2
-mul-if2-2 c = let t = c .before in omega (arith, entries-small (start t .args .geometry) (start t .args .config) (start t .pre))
+mul-if2-2 c = let t = c .before in omega (arith, entries t)
 
 mul-if2-3 : tie.Need-mul-if2-3
-mul-if2-3 c = let t = c .before in omega (arith, count t, tiles-small (start t .args .geometry) (start t .args .config) (start t .pre))
+mul-if2-3 c = let t = c .before in omega (arith, tiles t)
 
 add-if2-3 : tie.Need-add-if2-3
-add-if2-3 c = let t = c .before in omega (arith, count t, tiles-small (start t .args .geometry) (start t .args .config) (start t .pre), entries-small (start t .args .geometry) (start t .args .config) (start t .pre))
+add-if2-3 c = let t = c .before in omega (arith, tiles t, entries t)
 
 returns-2 : tie.Need-returns-2
 returns-2 c = let t = c .before .before in words-short (start t .args .geometry) (start t .args .config) _ _ _ (count t) (c .before .if1 .left) (c .if2 .taken)

@@ -4,6 +4,7 @@ use native.Mathlib.Nat.{mul-le-mul}
 use native.Mathlib.Omega.{arith}
 use lib.ListN.{getD}
 use borrow.Author.Needs.{needs}
+use Rattle.image.specs.Layout.{sideLimit}
 use Rattle.imgproc.proofs.tiles.Numbers.{Scanned, scanned-none, scanned-more, scanned-all, sum-small, sumSq-small}
 use Rattle.imgproc.proofs.tiles.row_numbers.Statement.{statement}
 use Rattle.imgproc.proofs.tiles.row_numbers.Tie as tie
@@ -21,7 +22,7 @@ bytes c k = omega (arith, c .shared-slice-known .given k)
 
 -- the sample at hand, and the sums before it
 here : (c : tie.After-greater Inv-loop μ-loop)
-    → (c .before .before .before .before .loop .sum ≤ 1044225) × (c .before .before .before .before .loop .sum-sq ≤ 266277375)
+    → (c .before .before .before .before .loop .sum ≤ 255 * sideLimit) × (c .before .before .before .before .loop .sum-sq ≤ 65025 * sideLimit)
 here c =
     let l = c .before .before .before .before .loop in
     let s = c .before .before .before .before .before in
