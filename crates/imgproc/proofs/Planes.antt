@@ -10,6 +10,7 @@ use lib.ListN.{length, getD}
 use Rattle.image.specs.Plane.{part}
 use Rattle.image.specs.PlaneLaws.{in-plane, length-part, getD-part}
 use Rattle.imgproc.specs.declared.tally.Tally.{Tally}
+use Rattle.imgproc.specs.Tallies.{Raised, raised-none, raised-twice, raised-as, room-part, room-left}
 use Rattle.imgproc.specs.Extremes.{Extreme, Between, Inside}
 use Rattle.imgproc.specs.Reach.{reachBox, reachFrom, reachTo, lineWalks}
 use Rattle.imgproc.specs.Walks.{cases, line-walks-le}
@@ -45,7 +46,7 @@ pub record Sweeping (tally : Tally) (d : List ℕ) (from to spare k w h : ℕ) (
   pub each : (x i : ℕ) → x < w → i < y → Reached (Before side) k w (λ j. lane d from w j i) x (lane d′ to w x i)
   pub ahead : (j : ℕ) → from + y * w ≤ j → j < from + w * h → getD d′ j 0 ≡ getD d j 0
   pub kept : Spared to (w * h) spare (3 * (w * h)) d d′
-  pub counted : raised .comparisons ≡ tally .comparisons + y * lineWalks k w
+  pub counted : Raised tally (y * lineWalks k w) raised
 
 module _ (tally : Tally) (d : List ℕ) (from to spare k w h : ℕ) (side : Bool) (ready : SweepReady tally d from to spare k w h) where
   pub sweeping-none : Sweeping tally d from to spare k w h side 0 tally d
@@ -54,7 +55,7 @@ module _ (tally : Tally) (d : List ℕ) (from to spare k w h : ℕ) (side : Bool
     each = λ x i l m. absurd (omega arith);
     ahead = λ j l m. refl;
     kept = record { long = refl; same = λ j p q. refl };
-    counted = omega arith;
+    counted = raised-as _ (raised-none tally) (omega arith);
   }
 
   module _ (y n : ℕ) (c : Tally) (a : List ℕ) (s : Sweeping tally d from to spare k w h side y c a) (fits : y + n ≤ h) where
@@ -75,7 +76,7 @@ module _ (tally : Tally) (d : List ℕ) (from to spare k w h : ℕ) (side : Bool
           target-apart = apart-within _ _ _ _ (ready .target-apart) (omega arith) (omega arith) (omega arith) (omega arith);
           planes = ⊎-elim (λ e. inl (omega arith)) (λ p. inr (apart-within _ _ _ _ p (omega arith) (omega arith) (omega arith) (omega arith))) (ready .planes);
           kernel = ready .kernel;
-          room = omega (arith, ready .room, s .counted);
+          room = room-left _ (ready .room) (s .counted) (omega arith);
         }
 
     module _ (r : Tally) (b : List ℕ) (strip : RowsSwept c a (from + y * w) (to + y * w) spare k w n side r b) where
@@ -119,7 +120,7 @@ module _ (tally : Tally) (d : List ℕ) (from to spare k w h : ℕ) (side : Bool
               long = strip .kept .long ∙ s .kept .long;
               same = λ j p q. still j (off-within (to + y * w) (w * n) p (omega arith) (omega arith)) q ∙ s .kept .same j p q;
             };
-            counted = omega (arith, strip .counted, s .counted, add-mul y n (lineWalks k w));
+            counted = raised-twice _ (s .counted) (strip .counted) (add-mul y n (lineWalks k w));
           }
 
   pub sweeping-all : (y : ℕ) (c : Tally) (a : List ℕ) → Sweeping tally d from to spare k w h side y c a → h ≤ y → RowsSwept tally d from to spare k w h side c a
@@ -127,7 +128,7 @@ module _ (tally : Tally) (d : List ℕ) (from to spare k w h : ℕ) (side : Bool
       let e : y ≡ h = omega (arith, s .inside) in
       record {
         each = λ x i X I. s .each x i X (omega arith);
-        counted = s .counted ∙ ap (λ (z : ℕ). tally .comparisons + z * lineWalks k w) e;
+        counted = rw e at (s .counted);
         kept = s .kept;
       }
 
@@ -148,7 +149,7 @@ module _ (side : Bool) (kx ky from to spare w h : ℕ) (t a : Tally) (d e : List
         target-apart = p .target-apart;
         planes = inl refl;
         kernel = ready .columns;
-        room = omega (arith, ready .room, across .counted);
+        room = room-left _ (ready .room) (across .counted) (omega arith);
       }
 
   module _ (r : Tally) (g : List ℕ) (down : ColumnsSwept a e to to spare ky w h side r g) where
@@ -180,7 +181,7 @@ module _ (side : Bool) (kx ky from to spare w h : ℕ) (t a : Tally) (d e : List
               let Y′ = reach-in ky h y (ready .columns) Y in
               sym (getD-part from (w * h) d (p .source) (q .1 * w + q .0) (in-plane w h (q .0) (q .1) (omega arith) (omega arith))))
               (both x y X Y)));
-          counted = omega (arith, across .counted, down .counted);
+          counted = raised-twice _ (across .counted) (down .counted) refl;
           kept = record {
             long = down .kept .long ∙ across .kept .long;
             same = λ j u v. down .kept .same j u v ∙ across .kept .same j u v;
@@ -205,17 +206,17 @@ module _ (one : Bool) (kx ky from to spare w h : ℕ) (t a : Tally) (d e : List 
           target-apart = p .target-apart;
           planes = inl refl;
           kernel = p .kernel;
-          room = omega (arith, ready .room, once .counted);
+          room = room-left _ (ready .room) (once .counted) (omega arith);
         };
         columns = ready .once .columns;
         wide = ready .once .wide;
-        room = omega (arith, ready .room, once .counted);
+        room = room-left _ (ready .room) (once .counted) (omega arith);
       }
 
   pub pair-morphed : (two : Bool) (r : Tally) (g : List ℕ) → Morphed a e to to spare kx ky w h two r g → PairMorphed t d from to spare kx ky w h one two r g
   pair-morphed two r g again = record {
     leaves = again .leaves ∙ ap (sweptRect (first two) kx ky w h) (once .leaves);
-    counted = omega (arith, once .counted, again .counted);
+    counted = raised-twice _ (once .counted) (again .counted) (omega arith);
     kept = record {
       long = again .kept .long ∙ once .kept .long;
       same = λ j u v. again .kept .same j u v ∙ once .kept .same j u v;
@@ -224,7 +225,7 @@ module _ (one : Bool) (kx ky from to spare w h : ℕ) (t a : Tally) (d e : List 
 
 -- ---- an opening or a closing: two of them with the kernel k
 pub pair-ready : {t : Tally} {d : List ℕ} {from to spare k w h : ℕ} → TwiceReady t d from to spare k w h → PairReady t d from to spare k k w h
-pair-ready p = record { once = record { rows = p .rows; columns = p .rows .kernel; wide = p .wide; room = omega (arith, p .room) }; room = p .room }
+pair-ready p = record { once = record { rows = p .rows; columns = p .rows .kernel; wide = p .wide; room = room-part _ (p .room) (omega arith) }; room = p .room }
 
 pub twice-morphed : (one two : Bool) {t r : Tally} {d g : List ℕ} {from to spare k w h : ℕ} → PairMorphed t d from to spare k k w h one two r g
     → TwiceMorphed (λ k w h p. swept (first two) k w h (swept (first one) k w h p)) t d from to spare k w h r g

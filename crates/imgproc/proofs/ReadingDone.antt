@@ -15,6 +15,7 @@ use Rattle.imgproc.specs.declared.reading.ReadingCounts.{ReadingCounts}
 use Rattle.imgproc.specs.declared.judging.Judged.{Judged}
 use Rattle.imgproc.specs.declared.judging.Judgement.{Judgement}
 use Rattle.imgproc.specs.declared.tally.Tally.{Tally}
+use Rattle.imgproc.specs.Tallies.{Stands, room-fresh, raised-fresh}
 use Rattle.imgproc.specs.Reach.{R}
 use Rattle.imgproc.specs.Walks.{sweep-walks}
 use Rattle.imgproc.specs.Grid.{skips}
@@ -39,7 +40,7 @@ counts-of a b c d = record { dark = a; light = b; skipped = c; tally = record { 
 abbrev numbers : ℕ → ℕ → ℕ → ℕ → ReadingNumbers
 numbers a b c d = record { dark = a; light = b; skipped = c; comparisons = d }
 
-module _ (src : List ℕ) (g : Geometry) (dst : List ℕ) (t : Geometry) (s : ReadingConfig) (bytes words : List ℕ) (ready : ReadReady src g dst t s bytes words) (tally : Tally) (fresh : tally .comparisons ≡ 0) where
+module _ (src : List ℕ) (g : Geometry) (dst : List ℕ) (t : Geometry) (s : ReadingConfig) (bytes words : List ℕ) (ready : ReadReady src g dst t s bytes words) (tally : Tally) (fresh : Stands tally 0) where
   pub open-stage : OpenReady tally src g s bytes
   open-stage =
       let a = area-small (ready .from) in
@@ -49,7 +50,7 @@ module _ (src : List ℕ) (g : Geometry) (dst : List ℕ) (t : Geometry) (s : Re
         floor = ready .floor;
         kernel = ready .kernel;
         fits = omega (arith, ready .bytes-fit);
-        room = omega arith;
+        room = room-fresh _ fresh (omega arith);
       }
 
   module _ (raised : Tally) (bytes₁ : List ℕ) (o : Opened tally src g s bytes raised bytes₁) where
@@ -96,7 +97,7 @@ module _ (src : List ℕ) (g : Geometry) (dst : List ℕ) (t : Geometry) (s : Re
       marked-is = ap (markedOver s (g .width) (g .height)) is-opened
 
       comparisons-are : raised .comparisons ≡ 2 * R (s .division .«structuring_element») (g .width) (g .height) + 2 * R (s .«opening_kernel») (g .width) (g .height)
-      comparisons-are = omega (arith, o .counted, fresh, sweep-walks (s .division .«structuring_element») (ready .element) (g .width) (g .height), sweep-walks (s .«opening_kernel») (ready .kernel) (g .width) (g .height))
+      comparisons-are = omega (arith, raised-fresh fresh (o .counted) .at, sweep-walks (s .division .«structuring_element») (ready .element) (g .width) (g .height), sweep-walks (s .«opening_kernel») (ready .kernel) (g .width) (g .height))
 
       pub read-done :
           {j : Judged} {dst′ words₃ : List ℕ}

@@ -1,5 +1,5 @@
 -- The stages of a reading in its workspaces: flattened and opened, and the tiles' marks. Assumes nothing.
-use mathlib.Core.Path.{_≡_, sym, ap, ap₂, _∙_, subst}
+use mathlib.Core.Path.{_≡_, refl, sym, ap, ap₂, _∙_, subst}
 use mathlib.Core.List.{List}
 use mathlib.Core.Logic.{inl, inr}
 use Prim.Native.Nat.{ℕ, _+_, _-_, _*_, _/_, _%_, _≤_}
@@ -14,6 +14,7 @@ use Rattle.image.specs.PlaneLaws.{length-tabulate, length-overwritten, part-bef
 use Rattle.image.specs.Views.{picture-again}
 use Rattle.imgproc.specs.declared.reading.ReadingConfig.{ReadingConfig}
 use Rattle.imgproc.specs.declared.tally.Tally.{Tally}
+use Rattle.imgproc.specs.Tallies.{raised-twice, room-part, room-left}
 use Rattle.imgproc.specs.declared.surface.TileByte.the-variants.{Skip}
 use Rattle.imgproc.specs.Fold.{bit}
 use Rattle.imgproc.specs.Reach.{lineWalks, sweepWalks}
@@ -38,7 +39,7 @@ sweep-most k w h =
 -- ---- flattened and opened
 module _ (tally : Tally) (src : List ℕ) (g : Geometry) (s : ReadingConfig) (ws : List ℕ) (ready : OpenReady tally src g s ws) where
   pub flat-ready : FlattenReady tally src g (s .division) ws
-  flat-ready = record { from = ready .from; kernel = ready .element; floor = ready .floor; fits = ready .fits; room = omega (arith, ready .room) }
+  flat-ready = record { from = ready .from; kernel = ready .element; floor = ready .floor; fits = ready .fits; room = room-part _ (ready .room) (omega arith) }
 
   module _ (raised : Tally) (first : List ℕ) (flat : Flattened tally src g (s .division) ws raised first) where
     pub open-ready : TwiceReady raised first (g .width * g .height) 0 (2 * (g .width * g .height)) (s .«opening_kernel») (g .width) (g .height)
@@ -53,16 +54,16 @@ module _ (tally : Tally) (src : List ℕ) (g : Geometry) (s : ReadingConfig) (ws
             target-apart = record { sides = inl (omega arith) };
             planes = inr (record { sides = inr (omega arith) });
             kernel = ready .kernel;
-            room = omega (arith, flat .counted, ready .room);
+            room = room-left _ (ready .room) (flat .counted) (omega arith);
           };
           wide = ready .from .wide;
-          room = omega (arith, flat .counted, ready .room);
+          room = room-left _ (ready .room) (flat .counted) (omega arith);
         }
 
     pub opened-is : {r : Tally} {second : List ℕ} → TwiceMorphed opened raised first (g .width * g .height) 0 (2 * (g .width * g .height)) (s .«opening_kernel») (g .width) (g .height) r second → Opened tally src g s ws r second
     opened-is o = record {
       leaves = o .leaves ∙ ap (opened (s .«opening_kernel») (g .width) (g .height)) (flat .leaves);
-      counted = omega (arith, o .counted, flat .counted);
+      counted = raised-twice _ (flat .counted) (o .counted) refl;
       long = o .kept .long ∙ flat .long;
     }
 
