@@ -109,14 +109,14 @@ pub record Downward (P : ℕ → ℕ → ℕ → Type 0) (test : ℕ → Bool) (
   pub lines : Done P (λ (i : ℕ). i < y) to w h d d′
   pub counted : Raised tally (walk test y * w) raised
 
-module _ (P : ℕ → ℕ → ℕ → Type 0) (test : ℕ → Bool) (to w h : ℕ) (d : List ℕ) (tally : Tally) where
+module _ {P : ℕ → ℕ → ℕ → Type 0} {test : ℕ → Bool} {to w h : ℕ} {d : List ℕ} {tally : Tally} where
   pub down-none : Downward P test to w h 0 0 d d tally tally
   unfolding walk
   down-none = record { inside = omega arith; here = omega arith; lines = done-none P to w h d (λ i m. not-suc-le-zero m); counted = raised-as _ (raised-none tally) (omega arith) }
 
-  pub down-more : (y at : ℕ) {c c′ : Tally} (g : ℕ → ℕ) (a a′ : List ℕ) → Downward P test to w h y at d a tally c → y < h → Rowed (to + at) w g a a′
+  pub down-more : {y at : ℕ} {c c′ : Tally} (g : ℕ → ℕ) {a a′ : List ℕ} → Downward P test to w h y at d a tally c → y < h → Rowed (to + at) w g a a′
       → ((x : ℕ) → x < w → P x y (g x)) → Raised c (bit (test y) * w) c′ → Downward P test to w h (y + 1) (at + w) d a′ tally c′
-  down-more y at g a a′ s l r each e =
+  down-more {y} g {a} {a′} s l r each e =
       let r′ : Rowed (to + y * w) w g a a′ = rw (s .here) at r in
       let more : walk test (y + 1) * w ≡ walk test y * w + bit (test y) * w = ap (λ (n : ℕ). n * w) (walk-more test y) ∙ omega arith in
       record {
@@ -127,17 +127,21 @@ module _ (P : ℕ → ℕ → ℕ → Type 0) (test : ℕ → Bool) (to w h : �
       }
 
   -- the tally so far has room for a line more
-  pub down-room : (y at : ℕ) {c : Tally} (a : List ℕ) → HasRoom tally (w * h) → Downward P test to w h y at d a tally c → y < h → HasRoom c w
-  down-room y at a room s l = let b : walk test y * w ≤ y * w = mul-le-mul-right w (walk-le test y) in room-left w room (s .counted) (omega (arith, line-order w y h l))
+  pub down-room : {y at : ℕ} {c : Tally} {a : List ℕ} → HasRoom tally (w * h) → Downward P test to w h y at d a tally c → y < h → HasRoom c w
+  down-room {y} room s l = let b : walk test y * w ≤ y * w = mul-le-mul-right w (walk-le test y) in room-left w room (s .counted) (omega (arith, line-order w y h l))
 
   -- the line at `at` is within the plane
-  pub down-fits : (y at : ℕ) {c : Tally} (a : List ℕ) → Downward P test to w h y at d a tally c → y < h → at + w ≤ w * h
-  down-fits y at a s l = omega (arith, line-order w y h l, s .here)
+  pub down-fits : {y at : ℕ} {c : Tally} {a : List ℕ} → Downward P test to w h y at d a tally c → y < h → at + w ≤ w * h
+  down-fits {y} s l = omega (arith, line-order w y h l, s .here)
 
-  pub down-all : (y at : ℕ) {c : Tally} (a : List ℕ) → Downward P test to w h y at d a tally c → h ≤ y → Passed P test tally d to w h c a
-  down-all y at a s l =
+  pub down-all : {y at : ℕ} {c : Tally} {a : List ℕ} → Downward P test to w h y at d a tally c → h ≤ y → Passed P test tally d to w h c a
+  down-all {y} s l =
       let e : y ≡ h = omega (arith, s .inside) in
       record { each = λ x i m n. s .lines .each x i m (omega arith); rest = s .lines .rest; counted = rw e at (s .counted) }
+
+-- the walk to y, by that to the line above
+walk-above : (test : ℕ → Bool) (y : ℕ) → 0 < y → walk test y ≡ walk test (y - 1) + bit (test (y - 1))
+walk-above test y l = ap (walk test) (omega arith) ∙ walk-more test (y - 1)
 
 -- ---- a pass that has come up to line y, and has met so many lines on its way
 pub record Upward (P : ℕ → ℕ → ℕ → Type 0) (test : ℕ → Bool) (to w h y at : ℕ) (d d′ : List ℕ) (tally raised : Tally) : Type 0 where
@@ -148,17 +152,13 @@ pub record Upward (P : ℕ → ℕ → ℕ → Type 0) (test : ℕ → Bool) (to
   pub ahead : met + walk test y ≡ walk test h
   pub counted : Raised tally (met * w) raised
 
-module _ (P : ℕ → ℕ → ℕ → Type 0) (test : ℕ → Bool) (to w h : ℕ) (d : List ℕ) (tally : Tally) where
+module _ {P : ℕ → ℕ → ℕ → Type 0} {test : ℕ → Bool} {to w h : ℕ} {d : List ℕ} {tally : Tally} where
   pub up-none : Upward P test to w h h (w * h) d d tally tally
   up-none = record { inside = omega arith; here = omega arith; lines = done-none P to w h d (λ i m. omega arith); met = 0; ahead = omega arith; counted = raised-as _ (raised-none tally) (omega arith) }
 
-  -- the walk with the line above y
-  above : (y : ℕ) → 0 < y → walk test y ≡ walk test (y - 1) + bit (test (y - 1))
-  above y l = ap (walk test) (omega arith) ∙ walk-more test (y - 1)
-
-  pub up-more : (y at : ℕ) {c c′ : Tally} (g : ℕ → ℕ) (a a′ : List ℕ) → Upward P test to w h y at d a tally c → 0 < y → Rowed (to + (at - w)) w g a a′
+  pub up-more : {y at : ℕ} {c c′ : Tally} (g : ℕ → ℕ) {a a′ : List ℕ} → Upward P test to w h y at d a tally c → 0 < y → Rowed (to + (at - w)) w g a a′
       → ((x : ℕ) → x < w → P x (y - 1) (g x)) → Raised c (bit (test (y - 1)) * w) c′ → Upward P test to w h (y - 1) (at - w) d a′ tally c′
-  up-more y at g a a′ s l r each e =
+  up-more {y} {at} g {a} {a′} s l r each e =
       let up : at - w ≡ (y - 1) * w = omega (arith, line-before w y l, s .here) in
       let r′ : Rowed (to + (y - 1) * w) w g a a′ = rw up at r in
       record {
@@ -166,25 +166,25 @@ module _ (P : ℕ → ℕ → ℕ → Type 0) (test : ℕ → Bool) (to w h : �
         here = up;
         lines = done-more (y - 1) g (omega (arith, s .inside)) (s .lines) r′ each (λ i m ne. omega arith);
         met = s .met + bit (test (y - 1));
-        ahead = omega (arith, s .ahead, above y l);
+        ahead = omega (arith, s .ahead, walk-above test y l);
         counted = raised-twice _ (s .counted) e (add-mul (s .met) (bit (test (y - 1))) w);
       }
 
-  pub up-room : (y at : ℕ) {c : Tally} (a : List ℕ) → HasRoom tally (w * h) → Upward P test to w h y at d a tally c → 0 < y → test (y - 1) ≡ true → HasRoom c w
-  up-room y at a room s l t =
+  pub up-room : {y at : ℕ} {c : Tally} {a : List ℕ} → HasRoom tally (w * h) → Upward P test to w h y at d a tally c → 0 < y → test (y - 1) ≡ true → HasRoom c w
+  up-room {y} room s l t =
       let one : bit (test (y - 1)) ≡ 1 = rw t refl in
-      let b : (s .met + 1) * w ≤ h * w = mul-le-mul-right w (omega (arith, s .ahead, above y l, walk-le test h)) in
+      let b : (s .met + 1) * w ≤ h * w = mul-le-mul-right w (omega (arith, s .ahead, walk-above test y l, walk-le test h)) in
       room-left w room (s .counted) (omega arith)
 
   -- the line at y - 1 is within the plane
-  pub up-fits : (y at : ℕ) {c : Tally} (a : List ℕ) → Upward P test to w h y at d a tally c → 0 < y → (w ≤ at) × (at ≤ w * h)
-  up-fits y at a s l =
+  pub up-fits : {y at : ℕ} {c : Tally} {a : List ℕ} → Upward P test to w h y at d a tally c → 0 < y → (w ≤ at) × (at ≤ w * h)
+  up-fits {y} s l =
       let b : y * w ≤ h * w = mul-le-mul-right w (s .inside) in
       omega (arith, line-before w y l, s .here)
 
-  pub up-all : (y at : ℕ) {c : Tally} (a : List ℕ) → Upward P test to w h y at d a tally c → y ≤ 0 → Passed P test tally d to w h c a
+  pub up-all : {y at : ℕ} {c : Tally} {a : List ℕ} → Upward P test to w h y at d a tally c → y ≤ 0 → Passed P test tally d to w h c a
   unfolding walk
-  up-all y at a s l =
+  up-all {y} s l =
       let e : y ≡ 0 = omega arith in
       let none : walk test y ≡ 0 = ap (walk test) e in
       let all : s .met ≡ walk test h = omega (arith, none, s .ahead) in

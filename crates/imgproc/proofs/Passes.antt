@@ -28,19 +28,19 @@ module _ {R : ℕ → ℕ → Type 0} {op : ℕ → ℕ → ℕ} (o : Order R op
   abbrev pub ForwardDown : ℕ → ℕ → List ℕ → Tally → Type 0
   ForwardDown y at a c = Downward (λ (x : ℕ). Forwards R k (lane d from w x)) (forwardAt k) to w h y at d a tally c
 
-  pub forward-copy : (y at : ℕ) {c : Tally} (a a′ : List ℕ) → ForwardDown y at a c → y < h → y % k ≡ 0
+  pub forward-copy : {y at : ℕ} {c : Tally} {a a′ : List ℕ} → ForwardDown y at a c → y < h → y % k ≡ 0
       → Rowed (to + at) w (λ (x : ℕ). getD a (from + at + x) 0) a a′ → ForwardDown (y + 1) (at + w) a′ c
-  forward-copy y at a a′ s l z r =
-      down-more _ _ _ _ _ _ _ y at (λ (x : ℕ). getD a (from + at + x) 0) a a′ s l r
+  forward-copy {y} {at} {a = a} s l z r =
+      down-more (λ (x : ℕ). getD a (from + at + x) 0) s l r
       (λ x m. rw (plane-kept from x y (from + at + x) apart (s .lines .rest) m l (omega (arith, s .here))) (forward-first o k pos (lane d from w x) y z))
       (raised-as _ (raised-none _) (simp (eq-eqb _ _ z) (omega arith)))
 
-  pub forward-meet : (y at : ℕ) {c c′ : Tally} (a a′ : List ℕ) → ForwardDown y at a c → y < h → (y % k ≡ 0 → ⊥)
+  pub forward-meet : {y at : ℕ} {c c′ : Tally} {a a′ : List ℕ} → ForwardDown y at a c → y < h → (y % k ≡ 0 → ⊥)
       → Rowed (to + at) w (λ (x : ℕ). op (getD a (to + (at - w) + x) 0) (getD a (from + at + x) 0)) a a′ → Raised c w c′ → ForwardDown (y + 1) (at + w) a′ c′
-  forward-meet y at a a′ s l nz r e =
+  forward-meet {y} {at} {a = a} s l nz r e =
       let p : 0 < y = after k y nz in
       let up = line-before w y p in
-      down-more _ _ _ _ _ _ _ y at (λ (x : ℕ). op (getD a (to + (at - w) + x) 0) (getD a (from + at + x) 0)) a a′ s l r
+      down-more (λ (x : ℕ). op (getD a (to + (at - w) + x) 0) (getD a (from + at + x) 0)) s l r
       (λ x m.
       let here = plane-kept from x y (from + at + x) apart (s .lines .rest) m l (omega (arith, s .here)) in
       let above : getD a (to + (at - w) + x) 0 ≡ lane a to w x (y - 1) = ap (λ (n : ℕ). getD a n 0) (omega (arith, s .here)) in
@@ -51,22 +51,22 @@ module _ {R : ℕ → ℕ → Type 0} {op : ℕ → ℕ → ℕ} (o : Order R op
   abbrev pub BackwardUp : ℕ → ℕ → List ℕ → Tally → Type 0
   BackwardUp y at a c = Upward (λ (x : ℕ). Backwards R k h (lane d from w x)) (backwardAt k h) to w h y at d a tally c
 
-  pub backward-copy : (y at : ℕ) {c : Tally} (a a′ : List ℕ) → BackwardUp y at a c → 0 < y → ((y - 1) % k ≡ k - 1) ⊎ (y - 1 ≡ h - 1)
+  pub backward-copy : {y at : ℕ} {c : Tally} {a a′ : List ℕ} → BackwardUp y at a c → 0 < y → ((y - 1) % k ≡ k - 1) ⊎ (y - 1 ≡ h - 1)
       → Rowed (to + (at - w)) w (λ (x : ℕ). getD a (from + (at - w) + x) 0) a a′ → BackwardUp (y - 1) (at - w) a′ c
-  backward-copy y at a a′ s l z r =
+  backward-copy {y} {at} {a = a} s l z r =
       let up = line-before w y l in
-      up-more _ _ _ _ _ _ _ y at (λ (x : ℕ). getD a (from + (at - w) + x) 0) a a′ s l r
+      up-more (λ (x : ℕ). getD a (from + (at - w) + x) 0) s l r
       (λ x m.
       rw (plane-kept from x (y - 1) (from + (at - w) + x) apart (s .lines .rest) m (omega (arith, s .inside)) (omega (arith, s .here)))
       (backward-first o k pos (lane d from w x) h (y - 1) (omega (arith, s .inside)) z))
       (raised-as _ (raised-none _) (rw (backward-none k h (y - 1) z) (omega arith)))
 
-  pub backward-meet : (y at : ℕ) {c c′ : Tally} (a a′ : List ℕ) → BackwardUp y at a c → 0 < y → ((y - 1) % k ≡ k - 1 → ⊥) → (y - 1 ≡ h - 1 → ⊥)
+  pub backward-meet : {y at : ℕ} {c c′ : Tally} {a a′ : List ℕ} → BackwardUp y at a c → 0 < y → ((y - 1) % k ≡ k - 1 → ⊥) → (y - 1 ≡ h - 1 → ⊥)
       → Rowed (to + (at - w)) w (λ (x : ℕ). op (getD a (to + (at - w + w) + x) 0) (getD a (from + (at - w) + x) 0)) a a′ → Raised c w c′ → BackwardUp (y - 1) (at - w) a′ c′
-  backward-meet y at a a′ s l nk nh r e =
+  backward-meet {y} {at} {a = a} s l nk nh r e =
       let up = line-before w y l in
       let same : (y - 1 + 1) * w ≡ y * w = ap (λ (n : ℕ). n * w) (omega arith) in
-      up-more _ _ _ _ _ _ _ y at (λ (x : ℕ). op (getD a (to + (at - w + w) + x) 0) (getD a (from + (at - w) + x) 0)) a a′ s l r
+      up-more (λ (x : ℕ). op (getD a (to + (at - w + w) + x) 0) (getD a (from + (at - w) + x) 0)) s l r
       (λ x m.
       let here = plane-kept from x (y - 1) (from + (at - w) + x) apart (s .lines .rest) m (omega (arith, s .inside)) (omega (arith, s .here)) in
       let next : getD a (to + (at - w + w) + x) 0 ≡ lane a to w x (y - 1 + 1) = ap (λ (n : ℕ). getD a n 0) (omega (arith, s .here)) in
@@ -79,10 +79,10 @@ module _ (op : ℕ → ℕ → ℕ) (k suffix prefix to w h : ℕ) (left : Apart
   abbrev pub JoinDown : ℕ → ℕ → List ℕ → Tally → Type 0
   JoinDown y at a c = Downward (λ (x : ℕ). Joins op k h (lane d suffix w x) (lane d prefix w x)) joinAt to w h y at d a tally c
 
-  pub join-line : (y at lo hi : ℕ) {c c′ : Tally} (a a′ : List ℕ) → JoinDown y at a c → y < h → lo ≡ low (radius k) y → hi ≡ high (radius k) h y
+  pub join-line : {y at lo hi : ℕ} {c c′ : Tally} {a a′ : List ℕ} → JoinDown y at a c → y < h → lo ≡ low (radius k) y → hi ≡ high (radius k) h y
       → Rowed (to + at) w (λ (x : ℕ). op (getD a (suffix + lo * w + x) 0) (getD a (prefix + hi * w + x) 0)) a a′ → Raised c w c′ → JoinDown (y + 1) (at + w) a′ c′
-  join-line y at lo hi a a′ s l p q r e =
-      down-more _ _ _ _ _ _ _ y at (λ (x : ℕ). op (getD a (suffix + lo * w + x) 0) (getD a (prefix + hi * w + x) 0)) a a′ s l r
+  join-line {y} {lo = lo} {hi = hi} {a = a} s l p q r e =
+      down-more (λ (x : ℕ). op (getD a (suffix + lo * w + x) 0) (getD a (prefix + hi * w + x) 0)) s l r
       (λ x m.
       let back = plane-kept suffix x lo (suffix + lo * w + x) left (s .lines .rest) m (omega arith) (omega arith) in
       let forth = plane-kept prefix x hi (prefix + hi * w + x) right (s .lines .rest) m (omega arith) (omega arith) in

@@ -4,7 +4,7 @@ use mathlib.Core.Bool.{Bool}
 use mathlib.Core.List.{List}
 use mathlib.Core.Logic.{_⊎_, inl, inr, ⊎-elim}
 use Prim.Native.Nat.{ℕ, _+_, _-_, _*_, _≤_, _<_}
-use native.Mathlib.Nat.{mul-le-mul-left, mul-le-mul-right, add-mul}
+use native.Mathlib.Nat.{mul-le-mul-right, add-mul}
 use native.Mathlib.Omega.{arith}
 use lib.ListN.{length, getD}
 use Rattle.image.specs.Plane.{part}
@@ -13,7 +13,7 @@ use Rattle.imgproc.specs.declared.tally.Tally.{Tally}
 use Rattle.imgproc.specs.Tallies.{Raised, raised-none, raised-twice, raised-as, room-part, room-left}
 use Rattle.imgproc.specs.Extremes.{Extreme, Between, Inside}
 use Rattle.imgproc.specs.Reach.{reachBox, reachFrom, reachTo, lineWalks}
-use Rattle.imgproc.specs.Walks.{cases, line-walks-le}
+use Rattle.imgproc.specs.Walks.{cases, lines-walks-le}
 use Rattle.imgproc.specs.Compared.{Before, first}
 use Rattle.imgproc.specs.Morphology.{sweptRect, swept}
 use Rattle.imgproc.specs.MorphologyLaws.{reach-in, is-swept}
@@ -67,7 +67,7 @@ module _ (tally : Tally) (d : List ℕ) (from to spare k w h : ℕ) (side : Bool
     sweeping-ready =
         let z = size in
         let long = s .kept .long in
-        let room : y * lineWalks k w ≤ y * (3 * w) = mul-le-mul-left y (line-walks-le k w) in
+        let most = lines-walks-le k w y in
         record {
           source = omega (arith, ready .source);
           target = omega (arith, ready .target);
@@ -140,7 +140,7 @@ module _ (side : Bool) (kx ky from to spare w h : ℕ) (t a : Tally) (d e : List
   columns-ready =
       let p = ready .rows in
       let long = across .kept .long in
-      let room : h * lineWalks kx w ≤ h * (3 * w) = mul-le-mul-left h (line-walks-le kx w) in
+      let most = lines-walks-le kx w h in
       record {
         source = omega (arith, p .target);
         target = omega (arith, p .target);
@@ -195,8 +195,8 @@ module _ (one : Bool) (kx ky from to spare w h : ℕ) (t a : Tally) (d e : List 
   again-ready =
       let p = ready .once .rows in
       let long = once .kept .long in
-      let across : h * lineWalks kx w ≤ h * (3 * w) = mul-le-mul-left h (line-walks-le kx w) in
-      let down : w * lineWalks ky h ≤ w * (3 * h) = mul-le-mul-left w (line-walks-le ky h) in
+      let across = lines-walks-le kx w h in
+      let down = lines-walks-le ky h w in
       record {
         rows = record {
           source = omega (arith, p .target);

@@ -40,8 +40,12 @@ room-part m r l = record { fits = omega (arith, r .fits) }
 pub room-left : {t a : Tally} {m n : ℕ} (l : ℕ) → HasRoom t n → Raised t m a → m + l ≤ n → HasRoom a l
 room-left l r p e = record { fits = omega (arith, r .fits, p .more) }
 
--- ---- a tally that has just been started
+-- ---- where it stands
 
+pub stands-as : {t : Tally} {m : ℕ} (n : ℕ) → Stands t m → m ≡ n → Stands t n
+stands-as n s e = record { at = omega (arith, s .at) }
+
+-- a tally that has just been started: its room, and where it stands once raised
 pub room-fresh : {t : Tally} (n : ℕ) → Stands t 0 → n < 2 ^ 64 → HasRoom t n
 room-fresh n s l = record { fits = omega (arith, s .at) }
 
