@@ -2,7 +2,7 @@
 use mathlib.Core.Path.{_≡_, refl, sym, ap, _∙_, subst}
 use mathlib.Core.Bool.{Bool, true}
 use mathlib.Core.List.{List}
-use mathlib.Core.Logic.{_⊎_, inl, inr, ⊎-elim}
+use mathlib.Core.Logic.{inl, inr, ⊎-elim}
 use Prim.Native.Nat.{ℕ, _+_, _-_, _*_, _≤_, _<_}
 use native.Mathlib.Nat.{not-suc-le-zero, mul-le-mul-right, add-mul}
 use native.Mathlib.Omega.{arith}
@@ -14,7 +14,6 @@ use Rattle.imgproc.specs.Walks.{cases, walk-more, walk-le}
 use Rattle.imgproc.specs.declared.tally.Tally.{Tally}
 use Rattle.imgproc.specs.Tallies.{Raised, HasRoom, raised-none, raised-twice, raised-as, room-left}
 use Rattle.imgproc.specs.Sweeps.{lane, Apart, Off, Outside, Rowed, Passed}
-use Rattle.imgproc.proofs.Blocks.{after}
 
 -- ---- places
 
@@ -112,7 +111,12 @@ pub record Downward (P : ℕ → ℕ → ℕ → Type 0) (test : ℕ → Bool) (
 module _ {P : ℕ → ℕ → ℕ → Type 0} {test : ℕ → Bool} {to w h : ℕ} {d : List ℕ} {tally : Tally} where
   pub down-none : Downward P test to w h 0 0 d d tally tally
   unfolding walk
-  down-none = record { inside = omega arith; here = omega arith; lines = done-none P to w h d (λ i m. not-suc-le-zero m); counted = raised-as _ (raised-none tally) (omega arith) }
+  down-none = record {
+    inside = omega arith;
+    here = omega arith;
+    lines = done-none P to w h d (λ i m. not-suc-le-zero m);
+    counted = raised-as _ (raised-none tally) (omega arith);
+  }
 
   pub down-more : {y at : ℕ} {c c′ : Tally} (g : ℕ → ℕ) {a a′ : List ℕ} → Downward P test to w h y at d a tally c → y < h → Rowed (to + at) w g a a′
       → ((x : ℕ) → x < w → P x y (g x)) → Raised c (bit (test y) * w) c′ → Downward P test to w h (y + 1) (at + w) d a′ tally c′
@@ -128,7 +132,9 @@ module _ {P : ℕ → ℕ → ℕ → Type 0} {test : ℕ → Bool} {to w h : �
 
   -- the tally so far has room for a line more
   pub down-room : {y at : ℕ} {c : Tally} {a : List ℕ} → HasRoom tally (w * h) → Downward P test to w h y at d a tally c → y < h → HasRoom c w
-  down-room {y} room s l = let b : walk test y * w ≤ y * w = mul-le-mul-right w (walk-le test y) in room-left w room (s .counted) (omega (arith, line-order w y h l))
+  down-room {y} room s l =
+      let b : walk test y * w ≤ y * w = mul-le-mul-right w (walk-le test y) in
+      room-left w room (s .counted) (omega (arith, line-order w y h l))
 
   -- the line at `at` is within the plane
   pub down-fits : {y at : ℕ} {c : Tally} {a : List ℕ} → Downward P test to w h y at d a tally c → y < h → at + w ≤ w * h
@@ -154,7 +160,14 @@ pub record Upward (P : ℕ → ℕ → ℕ → Type 0) (test : ℕ → Bool) (to
 
 module _ {P : ℕ → ℕ → ℕ → Type 0} {test : ℕ → Bool} {to w h : ℕ} {d : List ℕ} {tally : Tally} where
   pub up-none : Upward P test to w h h (w * h) d d tally tally
-  up-none = record { inside = omega arith; here = omega arith; lines = done-none P to w h d (λ i m. omega arith); met = 0; ahead = omega arith; counted = raised-as _ (raised-none tally) (omega arith) }
+  up-none = record {
+    inside = omega arith;
+    here = omega arith;
+    lines = done-none P to w h d (λ i m. omega arith);
+    met = 0;
+    ahead = omega arith;
+    counted = raised-as _ (raised-none tally) (omega arith);
+  }
 
   pub up-more : {y at : ℕ} {c c′ : Tally} (g : ℕ → ℕ) {a a′ : List ℕ} → Upward P test to w h y at d a tally c → 0 < y → Rowed (to + (at - w)) w g a a′
       → ((x : ℕ) → x < w → P x (y - 1) (g x)) → Raised c (bit (test (y - 1)) * w) c′ → Upward P test to w h (y - 1) (at - w) d a′ tally c′

@@ -118,4 +118,6 @@ lines-swept side k from to spare w h t a b r d e f g pos apart forth back joined
 -- after a pass there is room in the tally for what the plane's samples leave
 pub passed-room : {P : ℕ → ℕ → ℕ → Type 0} {test : ℕ → Bool} {t a : Tally} {d e : List ℕ} {to w h n : ℕ} (l : ℕ)
     → HasRoom t n → Passed P test t d to w h a e → w * h + l ≤ n → HasRoom a l
-passed-room {test = test} {w = w} {h = h} l room p e = let b : walk test h * w ≤ h * w = mul-le-mul-right w (walk-le test h) in room-left l room (p .counted) (omega arith)
+passed-room {test = test} {w = w} {h = h} l room p e =
+    let b : walk test h * w ≤ h * w = mul-le-mul-right w (walk-le test h) in
+    room-left l room (p .counted) (omega arith)

@@ -2,7 +2,7 @@
 use mathlib.Core.Path.{_≡_, refl, sym, ap, _∙_, subst}
 use mathlib.Core.Bool.{Bool}
 use mathlib.Core.List.{List}
-use mathlib.Core.Logic.{_⊎_, inl, inr, ⊎-elim}
+use mathlib.Core.Logic.{inl, inr, ⊎-elim}
 use Prim.Native.Nat.{ℕ, _+_, _-_, _*_, _≤_, _<_}
 use native.Mathlib.Nat.{mul-le-mul-right, add-mul}
 use native.Mathlib.Omega.{arith}
@@ -10,7 +10,7 @@ use lib.ListN.{length, getD}
 use Rattle.image.specs.Plane.{part}
 use Rattle.image.specs.PlaneLaws.{in-plane, length-part, getD-part}
 use Rattle.imgproc.specs.declared.tally.Tally.{Tally}
-use Rattle.imgproc.specs.Tallies.{Raised, raised-none, raised-twice, raised-as, room-part, room-left}
+use Rattle.imgproc.specs.Tallies.{Raised, HasRoom, raised-none, raised-twice, raised-as, room-part, room-left}
 use Rattle.imgproc.specs.Extremes.{Extreme, Between, Inside}
 use Rattle.imgproc.specs.Reach.{reachBox, reachFrom, reachTo, lineWalks}
 use Rattle.imgproc.specs.Walks.{cases, lines-walks-le}
@@ -132,25 +132,30 @@ module _ (tally : Tally) (d : List ℕ) (from to spare k w h : ℕ) (side : Bool
         kept = s .kept;
       }
 
+-- what a sweep of the plane that another left asks, where the tally has room for it
+sweep-again : {t a : Tally} {d e : List ℕ} {from to spare k k′ w h : ℕ} → SweepReady t d from to spare k w h → Spared to (w * h) spare (3 * (w * h)) d e
+    → 0 < k′ → HasRoom a (3 * (w * h)) → SweepReady a e to to spare k′ w h
+sweep-again p s kernel room =
+    let long = s .long in
+    record {
+      source = omega (arith, p .target);
+      target = omega (arith, p .target);
+      scratch = omega (arith, p .scratch);
+      source-apart = p .target-apart;
+      target-apart = p .target-apart;
+      planes = inl refl;
+      kernel = kernel;
+      room = room;
+    }
+
 -- ---- a sweep of the rows, then of the columns
 module _ (side : Bool) (kx ky from to spare w h : ℕ) (t a : Tally) (d e : List ℕ) (ready : MorphReady t d from to spare kx ky w h)
     (across : RowsSwept t d from to spare kx w h side a e) where
   -- what the second asks
   pub columns-ready : SweepReady a e to to spare ky w h
   columns-ready =
-      let p = ready .rows in
-      let long = across .kept .long in
       let most = lines-walks-le kx w h in
-      record {
-        source = omega (arith, p .target);
-        target = omega (arith, p .target);
-        scratch = omega (arith, p .scratch);
-        source-apart = p .target-apart;
-        target-apart = p .target-apart;
-        planes = inl refl;
-        kernel = ready .columns;
-        room = room-left _ (ready .room) (across .counted) (omega arith);
-      }
+      sweep-again (ready .rows) (across .kept) (ready .columns) (room-left _ (ready .room) (across .counted) (omega arith))
 
   module _ (r : Tally) (g : List ℕ) (down : ColumnsSwept a e to to spare ky w h side r g) where
     both : (x y : ℕ) → x < w → y < h → Extreme (Before side) (Inside (reachBox kx ky w h x y)) (λ p. lane d from w (p .0) (p .1)) (lane g to w x y)
@@ -193,25 +198,11 @@ module _ (one : Bool) (kx ky from to spare w h : ℕ) (t a : Tally) (d e : List 
     (once : Morphed t d from to spare kx ky w h one a e) where
   pub again-ready : MorphReady a e to to spare kx ky w h
   again-ready =
-      let p = ready .once .rows in
-      let long = once .kept .long in
       let across = lines-walks-le kx w h in
       let down = lines-walks-le ky h w in
-      record {
-        rows = record {
-          source = omega (arith, p .target);
-          target = omega (arith, p .target);
-          scratch = omega (arith, p .scratch);
-          source-apart = p .target-apart;
-          target-apart = p .target-apart;
-          planes = inl refl;
-          kernel = p .kernel;
-          room = room-left _ (ready .room) (once .counted) (omega arith);
-        };
-        columns = ready .once .columns;
-        wide = ready .once .wide;
-        room = room-left _ (ready .room) (once .counted) (omega arith);
-      }
+      let p = ready .once in
+      let room = room-left (6 * (w * h)) (ready .room) (once .counted) (omega arith) in
+      record { rows = sweep-again (p .rows) (once .kept) (p .rows .kernel) (room-part _ room (omega arith)); columns = p .columns; wide = p .wide; room = room }
 
   pub pair-morphed : (two : Bool) (r : Tally) (g : List ℕ) → Morphed a e to to spare kx ky w h two r g → PairMorphed t d from to spare kx ky w h one two r g
   pair-morphed two r g again = record {

@@ -97,7 +97,10 @@ module _ (src : List ℕ) (g : Geometry) (dst : List ℕ) (t : Geometry) (s : Re
       marked-is = ap (markedOver s (g .width) (g .height)) is-opened
 
       comparisons-are : Stands raised (2 * R (s .division .«structuring_element») (g .width) (g .height) + 2 * R (s .«opening_kernel») (g .width) (g .height))
-      comparisons-are = stands-as _ (raised-fresh fresh (o .counted)) (omega (arith, sweep-walks (s .division .«structuring_element») (ready .element) (g .width) (g .height), sweep-walks (s .«opening_kernel») (ready .kernel) (g .width) (g .height)))
+      comparisons-are =
+          let closing = sweep-walks (s .division .«structuring_element») (ready .element) (g .width) (g .height) in
+          let opening = sweep-walks (s .«opening_kernel») (ready .kernel) (g .width) (g .height) in
+          stands-as _ (raised-fresh fresh (o .counted)) (omega arith)
 
       pub read-done :
           {j : Judged} {dst′ words₃ : List ℕ}

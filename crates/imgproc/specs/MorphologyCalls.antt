@@ -1,5 +1,5 @@
 -- The contracts of the four morphology calls: what each answers, and what it leaves in the lent buffers. Definitions only.
-use Prim.Native.Nat.{ℕ, _+_, _*_, _^_, _≤_, _<_}
+use Prim.Native.Nat.{ℕ, _*_, _^_, _≤_, _<_}
 use mathlib.Core.Path.{_≡_}
 use mathlib.Core.List.{List}
 use lib.ListN.{length}

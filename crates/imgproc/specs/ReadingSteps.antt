@@ -67,7 +67,10 @@ pub record OpenReady (tally : Tally) (src : List ℕ) (g : Geometry) (s : Readin
 
 pub record Opened (tally : Tally) (src : List ℕ) (g : Geometry) (s : ReadingConfig) (ws : List ℕ) (raised : Tally) (ws′ : List ℕ) : Type 0 where
   pub leaves : part 0 (g .width * g .height) ws′ ≡ openedOf s (g .width) (g .height) (picture src g)
-  pub counted : Raised tally (2 * sweepWalks (s .division .«structuring_element») (g .width) (g .height) + 2 * sweepWalks (s .«opening_kernel») (g .width) (g .height)) raised
+  pub counted :
+      Raised tally
+      (2 * sweepWalks (s .division .«structuring_element») (g .width) (g .height) + 2 * sweepWalks (s .«opening_kernel») (g .width) (g .height))
+      raised
   pub long : length ws′ ≡ length ws
 
 -- the skips of the opened picture, which stands packed at the workspace's start, written after nine planes

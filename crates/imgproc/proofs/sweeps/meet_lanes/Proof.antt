@@ -66,7 +66,12 @@ loop-again c =
     let start = at-loop .before .before in
     let a = row-apart _ _ _ (lp .x) (start .args .a + lp .x) (lp .ws) (lp .inv .1) (start .pre .left-apart) (lp .inv .0) (omega arith) (omega arith) in
     let b = row-apart _ _ _ (lp .x) (start .args .b + lp .x) (lp .ws) (lp .inv .1) (start .pre .right-apart) (lp .inv .0) (omega arith) (omega arith) in
-    (omega arith, row-more _ _ _ (lp .x) _ (lp .ws) (lp .inv .1) (omega arith) (c .chosen .ensures ∙ rw (a, b) at (called .extreme .ensures .chosen)), raised-twice _ (raised-twice _ (lp .inv .2) (called .extreme .ensures .counted) refl) (c .before .counted .ensures) (omega arith))
+    let one-more = raised-twice _ (lp .inv .2) (called .extreme .ensures .counted) refl in
+    (
+      omega arith,
+      row-more _ _ _ (lp .x) _ (lp .ws) (lp .inv .1) (omega arith) (c .chosen .ensures ∙ rw (a, b) at (called .extreme .ensures .chosen)),
+      raised-twice _ one-more (c .before .counted .ensures) (omega arith),
+    )
 
 same-length : tie.Need-same-length Inv-loop μ-loop
 same-length c = c .before .loop .inv .1 .rest .long
