@@ -66,7 +66,8 @@ module _ (tally : Tally) (src : List ℕ) (g : Geometry) (d : BackgroundDivideCo
         }
 
 -- ---- and painted
-module _ (src : List ℕ) (s : Geometry) (dst : List ℕ) (t : Geometry) (d : BackgroundDivideConfig) (ws : List ℕ) (ready : DivideReady src s dst t d ws) (tally : Tally) (fresh : Stands tally 0) where
+module _ (src : List ℕ) (s : Geometry) (dst : List ℕ) (t : Geometry) (d : BackgroundDivideConfig) (ws : List ℕ)
+    (ready : DivideReady src s dst t d ws) (tally : Tally) (fresh : Stands tally 0) where
   pub flatten-ready : FlattenReady tally src s d ws
   flatten-ready =
       let area = area-small (ready .from) in

@@ -23,7 +23,8 @@ plane-kept {w} {h} {to} {d} {a} from x y j p o X Y e =
     let b = line-order w y h Y in
     outside-at j o (off j p (omega arith) (omega arith)) ∙ ap (λ (n : ℕ). getD d n 0) e
 
-module _ {R : ℕ → ℕ → Type 0} {op : ℕ → ℕ → ℕ} (o : Order R op) (k : ℕ) (pos : 0 < k) (from to w h : ℕ) (apart : Apart from (w * h) to (w * h)) (d : List ℕ) (tally : Tally) where
+module _ {R : ℕ → ℕ → Type 0} {op : ℕ → ℕ → ℕ} (o : Order R op) (k : ℕ) (pos : 0 < k)
+    (from to w h : ℕ) (apart : Apart from (w * h) to (w * h)) (d : List ℕ) (tally : Tally) where
   -- ---- forward
   abbrev pub ForwardDown : ℕ → ℕ → List ℕ → Tally → Type 0
   ForwardDown y at a c = Downward (λ (x : ℕ). Forwards R k (lane d from w x)) (forwardAt k) to w h y at d a tally c
@@ -62,7 +63,8 @@ module _ {R : ℕ → ℕ → Type 0} {op : ℕ → ℕ → ℕ} (o : Order R op
       (raised-as _ (raised-none _) (rw (backward-none k h (y - 1) z) (omega arith)))
 
   pub backward-meet : {y at : ℕ} {c c′ : Tally} {a a′ : List ℕ} → BackwardUp y at a c → 0 < y → ((y - 1) % k ≡ k - 1 → ⊥) → (y - 1 ≡ h - 1 → ⊥)
-      → Rowed (to + (at - w)) w (λ (x : ℕ). op (getD a (to + (at - w + w) + x) 0) (getD a (from + (at - w) + x) 0)) a a′ → Raised c w c′ → BackwardUp (y - 1) (at - w) a′ c′
+      → Rowed (to + (at - w)) w (λ (x : ℕ). op (getD a (to + (at - w + w) + x) 0) (getD a (from + (at - w) + x) 0)) a a′
+      → Raised c w c′ → BackwardUp (y - 1) (at - w) a′ c′
   backward-meet {y} {at} {a = a} s l nk nh r e =
       let up = line-before w y l in
       let same : (y - 1 + 1) * w ≡ y * w = ap (λ (n : ℕ). n * w) (omega arith) in
@@ -75,12 +77,14 @@ module _ {R : ℕ → ℕ → Type 0} {op : ℕ → ℕ → ℕ} (o : Order R op
       (raised-as _ e (simp (ne-eqb _ _ nk, ne-eqb _ _ nh) (omega arith)))
 
 -- ---- joining
-module _ (op : ℕ → ℕ → ℕ) (k suffix prefix to w h : ℕ) (left : Apart suffix (w * h) to (w * h)) (right : Apart prefix (w * h) to (w * h)) (d : List ℕ) (tally : Tally) where
+module _ (op : ℕ → ℕ → ℕ) (k suffix prefix to w h : ℕ)
+    (left : Apart suffix (w * h) to (w * h)) (right : Apart prefix (w * h) to (w * h)) (d : List ℕ) (tally : Tally) where
   abbrev pub JoinDown : ℕ → ℕ → List ℕ → Tally → Type 0
   JoinDown y at a c = Downward (λ (x : ℕ). Joins op k h (lane d suffix w x) (lane d prefix w x)) joinAt to w h y at d a tally c
 
   pub join-line : {y at lo hi : ℕ} {c c′ : Tally} {a a′ : List ℕ} → JoinDown y at a c → y < h → lo ≡ low (radius k) y → hi ≡ high (radius k) h y
-      → Rowed (to + at) w (λ (x : ℕ). op (getD a (suffix + lo * w + x) 0) (getD a (prefix + hi * w + x) 0)) a a′ → Raised c w c′ → JoinDown (y + 1) (at + w) a′ c′
+      → Rowed (to + at) w (λ (x : ℕ). op (getD a (suffix + lo * w + x) 0) (getD a (prefix + hi * w + x) 0)) a a′
+      → Raised c w c′ → JoinDown (y + 1) (at + w) a′ c′
   join-line {y} {lo = lo} {hi = hi} {a = a} s l p q r e =
       down-more (λ (x : ℕ). op (getD a (suffix + lo * w + x) 0) (getD a (prefix + hi * w + x) 0)) s l r
       (λ x m.

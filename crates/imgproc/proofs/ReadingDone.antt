@@ -40,7 +40,8 @@ counts-of a b c t = record { dark = a; light = b; skipped = c; tally = t }
 abbrev numbers : ℕ → ℕ → ℕ → ℕ → ReadingNumbers
 numbers a b c d = record { dark = a; light = b; skipped = c; comparisons = d }
 
-module _ (src : List ℕ) (g : Geometry) (dst : List ℕ) (t : Geometry) (s : ReadingConfig) (bytes words : List ℕ) (ready : ReadReady src g dst t s bytes words) (tally : Tally) (fresh : Stands tally 0) where
+module _ (src : List ℕ) (g : Geometry) (dst : List ℕ) (t : Geometry) (s : ReadingConfig) (bytes words : List ℕ)
+    (ready : ReadReady src g dst t s bytes words) (tally : Tally) (fresh : Stands tally 0) where
   pub open-stage : OpenReady tally src g s bytes
   open-stage =
       let a = area-small (ready .from) in

@@ -69,7 +69,8 @@ pub record Opened (tally : Tally) (src : List ℕ) (g : Geometry) (s : ReadingCo
   pub leaves : part 0 (g .width * g .height) ws′ ≡ openedOf s (g .width) (g .height) (picture src g)
   pub counted :
       Raised tally
-      (2 * sweepWalks (s .division .«structuring_element») (g .width) (g .height) + 2 * sweepWalks (s .«opening_kernel») (g .width) (g .height))
+      (2 * sweepWalks (s .division .«structuring_element») (g .width) (g .height)
+      + 2 * sweepWalks (s .«opening_kernel») (g .width) (g .height))
       raised
   pub long : length ws′ ≡ length ws
 

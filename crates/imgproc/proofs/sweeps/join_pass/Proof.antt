@@ -90,7 +90,8 @@ loop-again c =
     let highs = called .before .before in
     let in-loop = highs .before .before in
     let start = in-loop .before .before .before in
-    join-line (first (start .args .side)) _ _ _ _ _ _ (start .pre .left-apart) (start .pre .right-apart) _ _ (in-loop .before .loop .inv) (in-loop .loop-test .taken)
+    join-line (first (start .args .side)) _ _ _ _ _ _ (start .pre .left-apart) (start .pre .right-apart) _ _ (in-loop .before .loop .inv)
+    (in-loop .loop-test .taken)
     (highs .before .low-of .ensures)
     (highs .high-of .ensures)
     (called .meet-lanes .ensures .row)

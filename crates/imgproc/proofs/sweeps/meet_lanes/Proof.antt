@@ -66,8 +66,7 @@ loop-again c =
     let start = at-loop .before .before in
     let a = row-apart _ _ _ (lp .x) (start .args .a + lp .x) (lp .ws) (lp .inv .1) (start .pre .left-apart) (lp .inv .0) (omega arith) (omega arith) in
     let b = row-apart _ _ _ (lp .x) (start .args .b + lp .x) (lp .ws) (lp .inv .1) (start .pre .right-apart) (lp .inv .0) (omega arith) (omega arith) in
-    let one-more = raised-twice _ (lp .inv .2) (called .extreme .ensures .counted) refl in
-    (
+    let one-more = raised-twice _ (lp .inv .2) (called .extreme .ensures .counted) refl in (
       omega arith,
       row-more _ _ _ (lp .x) _ (lp .ws) (lp .inv .1) (omega arith) (c .chosen .ensures ∙ rw (a, b) at (called .extreme .ensures .chosen)),
       raised-twice _ one-more (c .before .counted .ensures) (omega arith),
@@ -77,7 +76,9 @@ same-length : tie.Need-same-length Inv-loop μ-loop
 same-length c = c .before .loop .inv .1 .rest .long
 
 returns : tie.Need-returns Inv-loop μ-loop
-returns c = record { row = row-all (c .before .loop .inv .1) (c .before .loop .inv .0) (c .loop-test .left); counted = raised-as _ (c .before .loop .inv .2) (omega arith) }
+returns c =
+    let inv = c .before .loop .inv in
+    record { row = row-all (inv .1) (inv .0) (c .loop-test .left); counted = raised-as _ (inv .2) (omega arith) }
 
 pub meet-lanes-spec : {M : Type 1} → statement M
 meet-lanes-spec =
