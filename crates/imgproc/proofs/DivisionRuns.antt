@@ -14,6 +14,7 @@ use Rattle.imgproc.specs.declared.illumination.BackgroundDivideConfig.{B
 use Rattle.imgproc.specs.declared.ImgProcError.the-variants.{InvalidConfiguration}
 use Rattle.imgproc.specs.declared.Check.the-variants.{Accepted, Refused}
 use Rattle.imgproc.specs.declared.tally.Tally.{Tally}
+use Rattle.imgproc.specs.Tallies.{Stands, room-fresh, raised-fresh}
 use Rattle.imgproc.specs.Morphology.{closed}
 use Rattle.imgproc.specs.Sweeps.{TwiceReady, TwiceMorphed}
 use Rattle.imgproc.specs.Refusals.{first, divisionSettings}
@@ -65,11 +66,12 @@ module _ (tally : Tally) (src : List ℕ) (g : Geometry) (d : BackgroundDivideCo
         }
 
 -- ---- and painted
-module _ (src : List ℕ) (s : Geometry) (dst : List ℕ) (t : Geometry) (d : BackgroundDivideConfig) (ws : List ℕ) (ready : DivideReady src s dst t d ws) (tally : Tally) (fresh : tally .comparisons ≡ 0) where
+module _ (src : List ℕ) (s : Geometry) (dst : List ℕ) (t : Geometry) (d : BackgroundDivideConfig) (ws : List ℕ)
+    (ready : DivideReady src s dst t d ws) (tally : Tally) (fresh : Stands tally 0) where
   pub flatten-ready : FlattenReady tally src s d ws
   flatten-ready =
       let area = area-small (ready .from) in
-      record { from = ready .from; kernel = ready .kernel; floor = ready .floor; fits = ready .fits; room = omega arith }
+      record { from = ready .from; kernel = ready .kernel; floor = ready .floor; fits = ready .fits; room = room-fresh _ fresh (omega arith) }
 
   module _ (raised : Tally) (ws′ : List ℕ) (flat : Flattened tally src s d ws raised ws′) where
     pub picture-divided : {r : Answer Bare} {dst′ : List ℕ} → Unpacks ws′ (s .width * s .height) dst t r dst′ → Divided src s dst t d ws raised dst′ ws′
@@ -80,7 +82,7 @@ module _ (src : List ℕ) (s : Geometry) (dst : List ℕ) (t : Geometry) (d : Ba
         left ∙ rw (ready .wide, ready .high) in
         record {
           leaves = p ∙ ap (λ (q : List ℕ). painted q (s .width) (s .height) (t .stride) dst) (flat .leaves);
-          counted = omega (arith, flat .counted, fresh);
+          counted = raised-fresh fresh (flat .counted);
           long = flat .long;
         }
 

@@ -2,7 +2,7 @@
 use mathlib.Core.Path.{_≡_, refl, sym, ap, _∙_, subst}
 use mathlib.Core.Bool.{Bool, true}
 use mathlib.Core.List.{List}
-use mathlib.Core.Logic.{_⊎_, inl, inr, ⊎-elim}
+use mathlib.Core.Logic.{inl, inr, ⊎-elim}
 use Prim.Native.Nat.{ℕ, _+_, _-_, _*_, _≤_, _<_}
 use native.Mathlib.Nat.{not-suc-le-zero, mul-le-mul-right, add-mul}
 use native.Mathlib.Omega.{arith}
@@ -12,8 +12,8 @@ use Rattle.imgproc.specs.Fold.{bit}
 use Rattle.imgproc.specs.Reach.{walk}
 use Rattle.imgproc.specs.Walks.{cases, walk-more, walk-le}
 use Rattle.imgproc.specs.declared.tally.Tally.{Tally}
+use Rattle.imgproc.specs.Tallies.{Raised, HasRoom, raised-none, raised-twice, raised-as, room-left}
 use Rattle.imgproc.specs.Sweeps.{lane, Apart, Off, Outside, Rowed, Passed}
-use Rattle.imgproc.proofs.Blocks.{after}
 
 -- ---- places
 
@@ -102,84 +102,103 @@ pub done-none : (P : ℕ → ℕ → ℕ → Type 0) {D : ℕ → Type 0} (to w 
 done-none P to w h d n = record { each = λ x y l m. absurd (n y m); rest = record { long = refl; before = λ j l. refl; after = λ j l. refl } }
 
 -- ---- a pass that has come down to line y
-pub record Downward (P : ℕ → ℕ → ℕ → Type 0) (test : ℕ → Bool) (to w h y at : ℕ) (d d′ : List ℕ) (count count′ : ℕ) : Type 0 where
+pub record Downward (P : ℕ → ℕ → ℕ → Type 0) (test : ℕ → Bool) (to w h y at : ℕ) (d d′ : List ℕ) (tally raised : Tally) : Type 0 where
   pub inside : y ≤ h
   pub here : at ≡ y * w
   pub lines : Done P (λ (i : ℕ). i < y) to w h d d′
-  pub counted : count′ ≡ count + walk test y * w
+  pub counted : Raised tally (walk test y * w) raised
 
-module _ (P : ℕ → ℕ → ℕ → Type 0) (test : ℕ → Bool) (to w h : ℕ) (d : List ℕ) (count : ℕ) where
-  pub down-none : Downward P test to w h 0 0 d d count count
+module _ {P : ℕ → ℕ → ℕ → Type 0} {test : ℕ → Bool} {to w h : ℕ} {d : List ℕ} {tally : Tally} where
+  pub down-none : Downward P test to w h 0 0 d d tally tally
   unfolding walk
-  down-none = record { inside = omega arith; here = omega arith; lines = done-none P to w h d (λ i m. not-suc-le-zero m); counted = omega arith }
+  down-none = record {
+    inside = omega arith;
+    here = omega arith;
+    lines = done-none P to w h d (λ i m. not-suc-le-zero m);
+    counted = raised-as _ (raised-none tally) (omega arith);
+  }
 
-  pub down-more : (y at c c′ : ℕ) (g : ℕ → ℕ) (a a′ : List ℕ) → Downward P test to w h y at d a count c → y < h → Rowed (to + at) w g a a′
-      → ((x : ℕ) → x < w → P x y (g x)) → c′ ≡ c + bit (test y) * w → Downward P test to w h (y + 1) (at + w) d a′ count c′
-  down-more y at c c′ g a a′ s l r each e =
+  pub down-more : {y at : ℕ} {c c′ : Tally} (g : ℕ → ℕ) {a a′ : List ℕ} → Downward P test to w h y at d a tally c → y < h → Rowed (to + at) w g a a′
+      → ((x : ℕ) → x < w → P x y (g x)) → Raised c (bit (test y) * w) c′ → Downward P test to w h (y + 1) (at + w) d a′ tally c′
+  down-more {y} g {a} {a′} s l r each e =
       let r′ : Rowed (to + y * w) w g a a′ = rw (s .here) at r in
       let more : walk test (y + 1) * w ≡ walk test y * w + bit (test y) * w = ap (λ (n : ℕ). n * w) (walk-more test y) ∙ omega arith in
       record {
         inside = omega arith;
         here = omega (arith, s .here);
         lines = done-more y g l (s .lines) r′ each (λ i m ne. omega arith);
-        counted = omega (arith, more, s .counted);
+        counted = raised-twice _ (s .counted) e more;
       }
 
-  -- the tally so far, with a line more
-  pub down-room : (y at c : ℕ) (a : List ℕ) → Downward P test to w h y at d a count c → y < h → c + w ≤ count + w * h
-  down-room y at c a s l = let b : walk test y * w ≤ y * w = mul-le-mul-right w (walk-le test y) in omega (arith, s .counted, line-order w y h l)
+  -- the tally so far has room for a line more
+  pub down-room : {y at : ℕ} {c : Tally} {a : List ℕ} → HasRoom tally (w * h) → Downward P test to w h y at d a tally c → y < h → HasRoom c w
+  down-room {y} room s l =
+      let b : walk test y * w ≤ y * w = mul-le-mul-right w (walk-le test y) in
+      room-left w room (s .counted) (omega (arith, line-order w y h l))
 
   -- the line at `at` is within the plane
-  pub down-fits : (y at c : ℕ) (a : List ℕ) → Downward P test to w h y at d a count c → y < h → at + w ≤ w * h
-  down-fits y at c a s l = omega (arith, line-order w y h l, s .here)
+  pub down-fits : {y at : ℕ} {c : Tally} {a : List ℕ} → Downward P test to w h y at d a tally c → y < h → at + w ≤ w * h
+  down-fits {y} s l = omega (arith, line-order w y h l, s .here)
 
-  pub down-all : (tally raised : Tally) (y at : ℕ) (a : List ℕ) → count ≡ tally .comparisons → Downward P test to w h y at d a count (raised .comparisons) → h ≤ y → Passed P test tally d to w h raised a
-  down-all tally raised y at a z s l =
+  pub down-all : {y at : ℕ} {c : Tally} {a : List ℕ} → Downward P test to w h y at d a tally c → h ≤ y → Passed P test tally d to w h c a
+  down-all {y} s l =
       let e : y ≡ h = omega (arith, s .inside) in
-      record { each = λ x i m n. s .lines .each x i m (omega arith); rest = s .lines .rest; counted = omega (arith, rw e at (s .counted)) }
+      record { each = λ x i m n. s .lines .each x i m (omega arith); rest = s .lines .rest; counted = rw e at (s .counted) }
 
--- ---- a pass that has come up to line y
-pub record Upward (P : ℕ → ℕ → ℕ → Type 0) (test : ℕ → Bool) (to w h y at : ℕ) (d d′ : List ℕ) (count count′ : ℕ) : Type 0 where
+-- the walk to y, by that to the line above
+walk-above : (test : ℕ → Bool) (y : ℕ) → 0 < y → walk test y ≡ walk test (y - 1) + bit (test (y - 1))
+walk-above test y l = ap (walk test) (omega arith) ∙ walk-more test (y - 1)
+
+-- ---- a pass that has come up to line y, and has met so many lines on its way
+pub record Upward (P : ℕ → ℕ → ℕ → Type 0) (test : ℕ → Bool) (to w h y at : ℕ) (d d′ : List ℕ) (tally raised : Tally) : Type 0 where
   pub inside : y ≤ h
   pub here : at ≡ y * w
   pub lines : Done P (λ (i : ℕ). (y ≤ i) × (i < h)) to w h d d′
-  pub counted : count′ + walk test y * w ≡ count + walk test h * w
+  pub met : ℕ
+  pub ahead : met + walk test y ≡ walk test h
+  pub counted : Raised tally (met * w) raised
 
-module _ (P : ℕ → ℕ → ℕ → Type 0) (test : ℕ → Bool) (to w h : ℕ) (d : List ℕ) (count : ℕ) where
-  pub up-none : Upward P test to w h h (w * h) d d count count
-  up-none = record { inside = omega arith; here = omega arith; lines = done-none P to w h d (λ i m. omega arith); counted = refl }
+module _ {P : ℕ → ℕ → ℕ → Type 0} {test : ℕ → Bool} {to w h : ℕ} {d : List ℕ} {tally : Tally} where
+  pub up-none : Upward P test to w h h (w * h) d d tally tally
+  up-none = record {
+    inside = omega arith;
+    here = omega arith;
+    lines = done-none P to w h d (λ i m. omega arith);
+    met = 0;
+    ahead = omega arith;
+    counted = raised-as _ (raised-none tally) (omega arith);
+  }
 
-  pub up-more : (y at c c′ : ℕ) (g : ℕ → ℕ) (a a′ : List ℕ) → Upward P test to w h y at d a count c → 0 < y → Rowed (to + (at - w)) w g a a′
-      → ((x : ℕ) → x < w → P x (y - 1) (g x)) → c′ ≡ c + bit (test (y - 1)) * w → Upward P test to w h (y - 1) (at - w) d a′ count c′
-  up-more y at c c′ g a a′ s l r each e =
+  pub up-more : {y at : ℕ} {c c′ : Tally} (g : ℕ → ℕ) {a a′ : List ℕ} → Upward P test to w h y at d a tally c → 0 < y → Rowed (to + (at - w)) w g a a′
+      → ((x : ℕ) → x < w → P x (y - 1) (g x)) → Raised c (bit (test (y - 1)) * w) c′ → Upward P test to w h (y - 1) (at - w) d a′ tally c′
+  up-more {y} {at} g {a} {a′} s l r each e =
       let up : at - w ≡ (y - 1) * w = omega (arith, line-before w y l, s .here) in
       let r′ : Rowed (to + (y - 1) * w) w g a a′ = rw up at r in
-      let more : walk test y * w ≡ walk test (y - 1) * w + bit (test (y - 1)) * w =
-      ap (λ (n : ℕ). n * w) (ap (walk test) (omega arith) ∙ walk-more test (y - 1)) ∙ omega arith in
       record {
         inside = omega (arith, s .inside);
         here = up;
         lines = done-more (y - 1) g (omega (arith, s .inside)) (s .lines) r′ each (λ i m ne. omega arith);
-        counted = omega (arith, more, s .counted);
+        met = s .met + bit (test (y - 1));
+        ahead = omega (arith, s .ahead, walk-above test y l);
+        counted = raised-twice _ (s .counted) e (add-mul (s .met) (bit (test (y - 1))) w);
       }
 
-  pub up-room : (y at c : ℕ) (a : List ℕ) → Upward P test to w h y at d a count c → 0 < y → test (y - 1) ≡ true → c + w ≤ count + w * h
-  up-room y at c a s l t =
-      let more : walk test y * w ≡ walk test (y - 1) * w + bit (test (y - 1)) * w =
-      ap (λ (n : ℕ). n * w) (ap (walk test) (omega arith) ∙ walk-more test (y - 1)) ∙ omega arith in
-      let one : bit (test (y - 1)) * w ≡ w = rw t (omega arith) in
-      let b : walk test h * w ≤ h * w = mul-le-mul-right w (walk-le test h) in
-      omega (arith, s .counted)
+  pub up-room : {y at : ℕ} {c : Tally} {a : List ℕ} → HasRoom tally (w * h) → Upward P test to w h y at d a tally c → 0 < y → test (y - 1) ≡ true → HasRoom c w
+  up-room {y} room s l t =
+      let one : bit (test (y - 1)) ≡ 1 = rw t refl in
+      let b : (s .met + 1) * w ≤ h * w = mul-le-mul-right w (omega (arith, s .ahead, walk-above test y l, walk-le test h)) in
+      room-left w room (s .counted) (omega arith)
 
   -- the line at y - 1 is within the plane
-  pub up-fits : (y at c : ℕ) (a : List ℕ) → Upward P test to w h y at d a count c → 0 < y → (w ≤ at) × (at ≤ w * h)
-  up-fits y at c a s l =
+  pub up-fits : {y at : ℕ} {c : Tally} {a : List ℕ} → Upward P test to w h y at d a tally c → 0 < y → (w ≤ at) × (at ≤ w * h)
+  up-fits {y} s l =
       let b : y * w ≤ h * w = mul-le-mul-right w (s .inside) in
       omega (arith, line-before w y l, s .here)
 
-  pub up-all : (tally raised : Tally) (y at : ℕ) (a : List ℕ) → count ≡ tally .comparisons → Upward P test to w h y at d a count (raised .comparisons) → y ≤ 0 → Passed P test tally d to w h raised a
+  pub up-all : {y at : ℕ} {c : Tally} {a : List ℕ} → Upward P test to w h y at d a tally c → y ≤ 0 → Passed P test tally d to w h c a
   unfolding walk
-  up-all tally raised y at a z s l =
+  up-all {y} s l =
       let e : y ≡ 0 = omega arith in
-      let none : walk test y * w ≡ 0 = ap (λ (n : ℕ). walk test n * w) e ∙ omega arith in
-      record { each = λ x i m n. s .lines .each x i m (omega arith); rest = s .lines .rest; counted = omega (arith, none, s .counted) }
+      let none : walk test y ≡ 0 = ap (walk test) e in
+      let all : s .met ≡ walk test h = omega (arith, none, s .ahead) in
+      record { each = λ x i m n. s .lines .each x i m (omega arith); rest = s .lines .rest; counted = rw all at (s .counted) }

@@ -10,6 +10,7 @@ use Rattle.image.specs.Answers.{Answer, Bare}
 use Rattle.image.specs.Plane.{picture, painted, part}
 use Rattle.image.specs.Copy.{Packs, Unpacks}
 use Rattle.imgproc.specs.declared.tally.Tally.{Tally}
+use Rattle.imgproc.specs.Tallies.{room-part}
 use Rattle.imgproc.specs.declared.morphology.Operation.{Operation}
 use Rattle.imgproc.specs.Sweeps.{MorphReady, TwiceReady}
 use Rattle.imgproc.specs.MorphologyCalls.{operated, OperateReady, CountReady, Counts, RunReady, Runs}
@@ -27,11 +28,11 @@ once-ready p = record {
     target-apart = record { sides = inl (omega arith) };
     planes = inr (record { sides = inl (omega arith) });
     kernel = p .kernel;
-    room = omega (arith, p .room);
+    room = room-part _ (p .room) (omega arith);
   };
   columns = p .kernel;
   wide = p .wide;
-  room = omega (arith, p .room);
+  room = room-part _ (p .room) (omega arith);
 }
 
 pub twice-ready : {t : Tally} {d : List ℕ} {k w h : ℕ} → OperateReady t d k w h → TwiceReady t d 0 (w * h) (2 * (w * h)) k w h

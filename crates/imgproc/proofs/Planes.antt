@@ -2,17 +2,18 @@
 use mathlib.Core.Path.{_≡_, refl, sym, ap, _∙_, subst}
 use mathlib.Core.Bool.{Bool}
 use mathlib.Core.List.{List}
-use mathlib.Core.Logic.{_⊎_, inl, inr, ⊎-elim}
+use mathlib.Core.Logic.{inl, inr, ⊎-elim}
 use Prim.Native.Nat.{ℕ, _+_, _-_, _*_, _≤_, _<_}
-use native.Mathlib.Nat.{mul-le-mul-left, mul-le-mul-right, add-mul}
+use native.Mathlib.Nat.{mul-le-mul-right, add-mul}
 use native.Mathlib.Omega.{arith}
 use lib.ListN.{length, getD}
 use Rattle.image.specs.Plane.{part}
 use Rattle.image.specs.PlaneLaws.{in-plane, length-part, getD-part}
 use Rattle.imgproc.specs.declared.tally.Tally.{Tally}
+use Rattle.imgproc.specs.Tallies.{Raised, HasRoom, raised-none, raised-twice, raised-as, room-part, room-left}
 use Rattle.imgproc.specs.Extremes.{Extreme, Between, Inside}
 use Rattle.imgproc.specs.Reach.{reachBox, reachFrom, reachTo, lineWalks}
-use Rattle.imgproc.specs.Walks.{cases, line-walks-le}
+use Rattle.imgproc.specs.Walks.{cases, lines-walks-le}
 use Rattle.imgproc.specs.Compared.{Before, first}
 use Rattle.imgproc.specs.Morphology.{sweptRect, swept}
 use Rattle.imgproc.specs.MorphologyLaws.{reach-in, is-swept}
@@ -45,7 +46,7 @@ pub record Sweeping (tally : Tally) (d : List ℕ) (from to spare k w h : ℕ) (
   pub each : (x i : ℕ) → x < w → i < y → Reached (Before side) k w (λ j. lane d from w j i) x (lane d′ to w x i)
   pub ahead : (j : ℕ) → from + y * w ≤ j → j < from + w * h → getD d′ j 0 ≡ getD d j 0
   pub kept : Spared to (w * h) spare (3 * (w * h)) d d′
-  pub counted : raised .comparisons ≡ tally .comparisons + y * lineWalks k w
+  pub counted : Raised tally (y * lineWalks k w) raised
 
 module _ (tally : Tally) (d : List ℕ) (from to spare k w h : ℕ) (side : Bool) (ready : SweepReady tally d from to spare k w h) where
   pub sweeping-none : Sweeping tally d from to spare k w h side 0 tally d
@@ -54,7 +55,7 @@ module _ (tally : Tally) (d : List ℕ) (from to spare k w h : ℕ) (side : Bool
     each = λ x i l m. absurd (omega arith);
     ahead = λ j l m. refl;
     kept = record { long = refl; same = λ j p q. refl };
-    counted = omega arith;
+    counted = raised-as _ (raised-none tally) (omega arith);
   }
 
   module _ (y n : ℕ) (c : Tally) (a : List ℕ) (s : Sweeping tally d from to spare k w h side y c a) (fits : y + n ≤ h) where
@@ -66,7 +67,7 @@ module _ (tally : Tally) (d : List ℕ) (from to spare k w h : ℕ) (side : Bool
     sweeping-ready =
         let z = size in
         let long = s .kept .long in
-        let room : y * lineWalks k w ≤ y * (3 * w) = mul-le-mul-left y (line-walks-le k w) in
+        let most = lines-walks-le k w y in
         record {
           source = omega (arith, ready .source);
           target = omega (arith, ready .target);
@@ -75,7 +76,7 @@ module _ (tally : Tally) (d : List ℕ) (from to spare k w h : ℕ) (side : Bool
           target-apart = apart-within _ _ _ _ (ready .target-apart) (omega arith) (omega arith) (omega arith) (omega arith);
           planes = ⊎-elim (λ e. inl (omega arith)) (λ p. inr (apart-within _ _ _ _ p (omega arith) (omega arith) (omega arith) (omega arith))) (ready .planes);
           kernel = ready .kernel;
-          room = omega (arith, ready .room, s .counted);
+          room = room-left _ (ready .room) (s .counted) (omega arith);
         }
 
     module _ (r : Tally) (b : List ℕ) (strip : RowsSwept c a (from + y * w) (to + y * w) spare k w n side r b) where
@@ -119,7 +120,7 @@ module _ (tally : Tally) (d : List ℕ) (from to spare k w h : ℕ) (side : Bool
               long = strip .kept .long ∙ s .kept .long;
               same = λ j p q. still j (off-within (to + y * w) (w * n) p (omega arith) (omega arith)) q ∙ s .kept .same j p q;
             };
-            counted = omega (arith, strip .counted, s .counted, add-mul y n (lineWalks k w));
+            counted = raised-twice _ (s .counted) (strip .counted) (add-mul y n (lineWalks k w));
           }
 
   pub sweeping-all : (y : ℕ) (c : Tally) (a : List ℕ) → Sweeping tally d from to spare k w h side y c a → h ≤ y → RowsSwept tally d from to spare k w h side c a
@@ -127,9 +128,25 @@ module _ (tally : Tally) (d : List ℕ) (from to spare k w h : ℕ) (side : Bool
       let e : y ≡ h = omega (arith, s .inside) in
       record {
         each = λ x i X I. s .each x i X (omega arith);
-        counted = s .counted ∙ ap (λ (z : ℕ). tally .comparisons + z * lineWalks k w) e;
+        counted = rw e at (s .counted);
         kept = s .kept;
       }
+
+-- what a sweep of the plane that another left asks, where the tally has room for it
+sweep-again : {t a : Tally} {d e : List ℕ} {from to spare k k′ w h : ℕ} → SweepReady t d from to spare k w h → Spared to (w * h) spare (3 * (w * h)) d e
+    → 0 < k′ → HasRoom a (3 * (w * h)) → SweepReady a e to to spare k′ w h
+sweep-again p s kernel room =
+    let long = s .long in
+    record {
+      source = omega (arith, p .target);
+      target = omega (arith, p .target);
+      scratch = omega (arith, p .scratch);
+      source-apart = p .target-apart;
+      target-apart = p .target-apart;
+      planes = inl refl;
+      kernel = kernel;
+      room = room;
+    }
 
 -- ---- a sweep of the rows, then of the columns
 module _ (side : Bool) (kx ky from to spare w h : ℕ) (t a : Tally) (d e : List ℕ) (ready : MorphReady t d from to spare kx ky w h)
@@ -137,19 +154,8 @@ module _ (side : Bool) (kx ky from to spare w h : ℕ) (t a : Tally) (d e : List
   -- what the second asks
   pub columns-ready : SweepReady a e to to spare ky w h
   columns-ready =
-      let p = ready .rows in
-      let long = across .kept .long in
-      let room : h * lineWalks kx w ≤ h * (3 * w) = mul-le-mul-left h (line-walks-le kx w) in
-      record {
-        source = omega (arith, p .target);
-        target = omega (arith, p .target);
-        scratch = omega (arith, p .scratch);
-        source-apart = p .target-apart;
-        target-apart = p .target-apart;
-        planes = inl refl;
-        kernel = ready .columns;
-        room = omega (arith, ready .room, across .counted);
-      }
+      let most = lines-walks-le kx w h in
+      sweep-again (ready .rows) (across .kept) (ready .columns) (room-left _ (ready .room) (across .counted) (omega arith))
 
   module _ (r : Tally) (g : List ℕ) (down : ColumnsSwept a e to to spare ky w h side r g) where
     both : (x y : ℕ) → x < w → y < h → Extreme (Before side) (Inside (reachBox kx ky w h x y)) (λ p. lane d from w (p .0) (p .1)) (lane g to w x y)
@@ -180,7 +186,7 @@ module _ (side : Bool) (kx ky from to spare w h : ℕ) (t a : Tally) (d e : List
               let Y′ = reach-in ky h y (ready .columns) Y in
               sym (getD-part from (w * h) d (p .source) (q .1 * w + q .0) (in-plane w h (q .0) (q .1) (omega arith) (omega arith))))
               (both x y X Y)));
-          counted = omega (arith, across .counted, down .counted);
+          counted = raised-twice _ (across .counted) (down .counted) refl;
           kept = record {
             long = down .kept .long ∙ across .kept .long;
             same = λ j u v. down .kept .same j u v ∙ across .kept .same j u v;
@@ -192,30 +198,16 @@ module _ (one : Bool) (kx ky from to spare w h : ℕ) (t a : Tally) (d e : List 
     (once : Morphed t d from to spare kx ky w h one a e) where
   pub again-ready : MorphReady a e to to spare kx ky w h
   again-ready =
-      let p = ready .once .rows in
-      let long = once .kept .long in
-      let across : h * lineWalks kx w ≤ h * (3 * w) = mul-le-mul-left h (line-walks-le kx w) in
-      let down : w * lineWalks ky h ≤ w * (3 * h) = mul-le-mul-left w (line-walks-le ky h) in
-      record {
-        rows = record {
-          source = omega (arith, p .target);
-          target = omega (arith, p .target);
-          scratch = omega (arith, p .scratch);
-          source-apart = p .target-apart;
-          target-apart = p .target-apart;
-          planes = inl refl;
-          kernel = p .kernel;
-          room = omega (arith, ready .room, once .counted);
-        };
-        columns = ready .once .columns;
-        wide = ready .once .wide;
-        room = omega (arith, ready .room, once .counted);
-      }
+      let across = lines-walks-le kx w h in
+      let down = lines-walks-le ky h w in
+      let p = ready .once in
+      let room = room-left (6 * (w * h)) (ready .room) (once .counted) (omega arith) in
+      record { rows = sweep-again (p .rows) (once .kept) (p .rows .kernel) (room-part _ room (omega arith)); columns = p .columns; wide = p .wide; room = room }
 
   pub pair-morphed : (two : Bool) (r : Tally) (g : List ℕ) → Morphed a e to to spare kx ky w h two r g → PairMorphed t d from to spare kx ky w h one two r g
   pair-morphed two r g again = record {
     leaves = again .leaves ∙ ap (sweptRect (first two) kx ky w h) (once .leaves);
-    counted = omega (arith, once .counted, again .counted);
+    counted = raised-twice _ (once .counted) (again .counted) (omega arith);
     kept = record {
       long = again .kept .long ∙ once .kept .long;
       same = λ j u v. again .kept .same j u v ∙ once .kept .same j u v;
@@ -224,7 +216,7 @@ module _ (one : Bool) (kx ky from to spare w h : ℕ) (t a : Tally) (d e : List 
 
 -- ---- an opening or a closing: two of them with the kernel k
 pub pair-ready : {t : Tally} {d : List ℕ} {from to spare k w h : ℕ} → TwiceReady t d from to spare k w h → PairReady t d from to spare k k w h
-pair-ready p = record { once = record { rows = p .rows; columns = p .rows .kernel; wide = p .wide; room = omega (arith, p .room) }; room = p .room }
+pair-ready p = record { once = record { rows = p .rows; columns = p .rows .kernel; wide = p .wide; room = room-part _ (p .room) (omega arith) }; room = p .room }
 
 pub twice-morphed : (one two : Bool) {t r : Tally} {d g : List ℕ} {from to spare k w h : ℕ} → PairMorphed t d from to spare k k w h one two r g
     → TwiceMorphed (λ k w h p. swept (first two) k w h (swept (first one) k w h p)) t d from to spare k w h r g

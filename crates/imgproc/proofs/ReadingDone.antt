@@ -15,6 +15,7 @@ use Rattle.imgproc.specs.declared.reading.ReadingCounts.{ReadingCounts}
 use Rattle.imgproc.specs.declared.judging.Judged.{Judged}
 use Rattle.imgproc.specs.declared.judging.Judgement.{Judgement}
 use Rattle.imgproc.specs.declared.tally.Tally.{Tally}
+use Rattle.imgproc.specs.Tallies.{Stands, stands-as, room-fresh, raised-fresh}
 use Rattle.imgproc.specs.Reach.{R}
 use Rattle.imgproc.specs.Walks.{sweep-walks}
 use Rattle.imgproc.specs.Grid.{skips}
@@ -32,14 +33,15 @@ packed-kept {len} {g} k =
     let m : g .width * g .height ≡ g .width * (g .height - 1) + g .width = ap (λ (n : ℕ). g .width * n) (sym e) ∙ mul-add (g .width) (g .height - 1) 1 ∙ ap (λ (n : ℕ). g .width * (g .height - 1) + n) (mul-one (g .width)) in
     record { wide = k .wide; high = k .high; stride = omega arith; fits = omega arith; small-width = k .small-width; small-height = k .small-height }
 
--- the four counts, one by one, and their numbers
-abbrev pub counts-of : ℕ → ℕ → ℕ → ℕ → ReadingCounts
-counts-of a b c d = record { dark = a; light = b; skipped = c; tally = record { comparisons = d } }
+-- the three counts and the tally, one by one, and their numbers
+abbrev pub counts-of : ℕ → ℕ → ℕ → Tally → ReadingCounts
+counts-of a b c t = record { dark = a; light = b; skipped = c; tally = t }
 
 abbrev numbers : ℕ → ℕ → ℕ → ℕ → ReadingNumbers
 numbers a b c d = record { dark = a; light = b; skipped = c; comparisons = d }
 
-module _ (src : List ℕ) (g : Geometry) (dst : List ℕ) (t : Geometry) (s : ReadingConfig) (bytes words : List ℕ) (ready : ReadReady src g dst t s bytes words) (tally : Tally) (fresh : tally .comparisons ≡ 0) where
+module _ (src : List ℕ) (g : Geometry) (dst : List ℕ) (t : Geometry) (s : ReadingConfig) (bytes words : List ℕ)
+    (ready : ReadReady src g dst t s bytes words) (tally : Tally) (fresh : Stands tally 0) where
   pub open-stage : OpenReady tally src g s bytes
   open-stage =
       let a = area-small (ready .from) in
@@ -49,7 +51,7 @@ module _ (src : List ℕ) (g : Geometry) (dst : List ℕ) (t : Geometry) (s : Re
         floor = ready .floor;
         kernel = ready .kernel;
         fits = omega (arith, ready .bytes-fit);
-        room = omega arith;
+        room = room-fresh _ fresh (omega arith);
       }
 
   module _ (raised : Tally) (bytes₁ : List ℕ) (o : Opened tally src g s bytes raised bytes₁) where
@@ -95,19 +97,22 @@ module _ (src : List ℕ) (g : Geometry) (dst : List ℕ) (t : Geometry) (s : Re
       unfolding marked markedOver judged
       marked-is = ap (markedOver s (g .width) (g .height)) is-opened
 
-      comparisons-are : raised .comparisons ≡ 2 * R (s .division .«structuring_element») (g .width) (g .height) + 2 * R (s .«opening_kernel») (g .width) (g .height)
-      comparisons-are = omega (arith, o .counted, fresh, sweep-walks (s .division .«structuring_element») (ready .element) (g .width) (g .height), sweep-walks (s .«opening_kernel») (ready .kernel) (g .width) (g .height))
+      comparisons-are : Stands raised (2 * R (s .division .«structuring_element») (g .width) (g .height) + 2 * R (s .«opening_kernel») (g .width) (g .height))
+      comparisons-are =
+          let closing = sweep-walks (s .division .«structuring_element») (ready .element) (g .width) (g .height) in
+          let opening = sweep-walks (s .«opening_kernel») (ready .kernel) (g .width) (g .height) in
+          stands-as _ (raised-fresh fresh (o .counted)) (omega arith)
 
       pub read-done :
           {j : Judged} {dst′ words₃ : List ℕ}
           → PictureJudged s (packedAs g) (part 0 (g .width * g .height) bytes₂) dst (t .stride) j dst′
           → length words₃ ≡ length words₂
-          → ReadDone src g dst t s bytes words (counts-of (j .dark) (j .light) (j .skipped) (raised .comparisons)) dst′ bytes₂ words₃
+          → ReadDone src g dst t s bytes words (counts-of (j .dark) (j .light) (j .skipped) raised) dst′ bytes₂ words₃
       unfolding source readingOf
       read-done {j} p l = record {
         counted =
             ap₂ (λ (a b : ℕ). numbers a b (j .skipped) (raised .comparisons)) (p .dark ∙ count-is isDark) (p .light ∙ count-is isLight)
-            ∙ ap₂ (numbers _ _) (p .skipped ∙ count-is isSkipped) comparisons-are;
+            ∙ ap₂ (numbers _ _) (p .skipped ∙ count-is isSkipped) (comparisons-are .at);
         leaves = p .leaves ∙ ap (λ (z : List ℕ). painted z (g .width) (g .height) (t .stride) dst) marked-is;
         bytes-long = m .bytes-long ∙ o .long;
         words-long = l ∙ m .words-long;

@@ -1,9 +1,9 @@
 -- The stages of a reading in its workspaces: flattened and opened, and the tiles' marks. Assumes nothing.
-use mathlib.Core.Path.{_≡_, sym, ap, ap₂, _∙_, subst}
+use mathlib.Core.Path.{_≡_, refl, sym, ap, ap₂, _∙_, subst}
 use mathlib.Core.List.{List}
 use mathlib.Core.Logic.{inl, inr}
 use Prim.Native.Nat.{ℕ, _+_, _-_, _*_, _/_, _%_, _≤_}
-use native.Mathlib.Nat.{mul-le-mul-left, add-sub-cancel-left}
+use native.Mathlib.Nat.{add-sub-cancel-left}
 use native.Mathlib.Omega.{arith}
 use lib.ListN.{length, take, drop}
 use lib.Seq.{length-take-le}
@@ -14,10 +14,10 @@ use Rattle.image.specs.PlaneLaws.{length-tabulate, length-overwritten, part-bef
 use Rattle.image.specs.Views.{picture-again}
 use Rattle.imgproc.specs.declared.reading.ReadingConfig.{ReadingConfig}
 use Rattle.imgproc.specs.declared.tally.Tally.{Tally}
+use Rattle.imgproc.specs.Tallies.{raised-twice, room-part, room-left}
 use Rattle.imgproc.specs.declared.surface.TileByte.the-variants.{Skip}
 use Rattle.imgproc.specs.Fold.{bit}
-use Rattle.imgproc.specs.Reach.{lineWalks, sweepWalks}
-use Rattle.imgproc.specs.Walks.{line-walks-le}
+use Rattle.imgproc.specs.Walks.{lines-walks-le}
 use Rattle.imgproc.specs.Morphology.{opened}
 use Rattle.imgproc.specs.Sweeps.{TwiceReady, TwiceMorphed}
 use Rattle.imgproc.specs.Division.{FlattenReady, Flattened}
@@ -28,22 +28,16 @@ use Rattle.imgproc.specs.ReadingSteps.{OpenReady, Opened, MarkReady, Mar
 use Rattle.imgproc.specs.Tables.{Tables}
 use Rattle.imgproc.proofs.surface.Tables.{skips-are}
 
--- an erosion or a dilation makes at most 6wh comparisons
-sweep-most : (k w h : ℕ) → sweepWalks k w h ≤ 6 * (w * h)
-sweep-most k w h =
-    let across : h * lineWalks k w ≤ h * (3 * w) = mul-le-mul-left h (line-walks-le k w) in
-    let down : w * lineWalks k h ≤ w * (3 * h) = mul-le-mul-left w (line-walks-le k h) in
-    omega arith
-
 -- ---- flattened and opened
 module _ (tally : Tally) (src : List ℕ) (g : Geometry) (s : ReadingConfig) (ws : List ℕ) (ready : OpenReady tally src g s ws) where
   pub flat-ready : FlattenReady tally src g (s .division) ws
-  flat-ready = record { from = ready .from; kernel = ready .element; floor = ready .floor; fits = ready .fits; room = omega (arith, ready .room) }
+  flat-ready = record { from = ready .from; kernel = ready .element; floor = ready .floor; fits = ready .fits; room = room-part _ (ready .room) (omega arith) }
 
   module _ (raised : Tally) (first : List ℕ) (flat : Flattened tally src g (s .division) ws raised first) where
     pub open-ready : TwiceReady raised first (g .width * g .height) 0 (2 * (g .width * g .height)) (s .«opening_kernel») (g .width) (g .height)
     open-ready =
-        let most = sweep-most (s .division .«structuring_element») (g .width) (g .height) in
+        let across = lines-walks-le (s .division .«structuring_element») (g .width) (g .height) in
+        let down = lines-walks-le (s .division .«structuring_element») (g .height) (g .width) in
         record {
           rows = record {
             source = omega (arith, flat .long, ready .fits);
@@ -53,16 +47,16 @@ module _ (tally : Tally) (src : List ℕ) (g : Geometry) (s : ReadingConfig) (ws
             target-apart = record { sides = inl (omega arith) };
             planes = inr (record { sides = inr (omega arith) });
             kernel = ready .kernel;
-            room = omega (arith, flat .counted, ready .room);
+            room = room-left _ (ready .room) (flat .counted) (omega arith);
           };
           wide = ready .from .wide;
-          room = omega (arith, flat .counted, ready .room);
+          room = room-left _ (ready .room) (flat .counted) (omega arith);
         }
 
     pub opened-is : {r : Tally} {second : List ℕ} → TwiceMorphed opened raised first (g .width * g .height) 0 (2 * (g .width * g .height)) (s .«opening_kernel») (g .width) (g .height) r second → Opened tally src g s ws r second
     opened-is o = record {
       leaves = o .leaves ∙ ap (opened (s .«opening_kernel») (g .width) (g .height)) (flat .leaves);
-      counted = omega (arith, o .counted, flat .counted);
+      counted = raised-twice _ (flat .counted) (o .counted) refl;
       long = o .kept .long ∙ flat .long;
     }
 

@@ -1,15 +1,16 @@
 -- Document 01, part 2: a comparison of two samples. Definitions only.
 use mathlib.Core.Path.{_≡_}
 use mathlib.Core.Bool.{Bool, true, false}
-use Prim.Native.Nat.{ℕ, _+_, min, max}
+use Prim.Native.Nat.{ℕ, min, max}
 use Rattle.imgproc.specs.Extremes.{Low, High}
 use Rattle.imgproc.specs.declared.tally.Tally.{Tally}
 use Rattle.imgproc.specs.declared.tally.Met.{Met}
+use Rattle.imgproc.specs.Tallies.{Raised}
 
 -- a comparison: the extreme of the two samples, and the tally raised by 1
 pub record Compares (extreme : ℕ) (tally : Tally) (met : Met) : Type 0 where
   pub chosen : met .value ≡ extreme
-  pub counted : met .tally .comparisons ≡ tally .comparisons + 1
+  pub counted : Raised tally 1 (met .tally)
 
 -- one sweep serves both orders: the side is true for the lesser of two samples and false for the greater
 abbrev pub Before : Bool → ℕ → ℕ → Type 0

@@ -1,5 +1,5 @@
 -- Document 01, part 3: division by the background, and the contract of `background_divide_into`. Definitions only.
-use Prim.Native.Nat.{ℕ, _+_, _*_, _/_, _^_, _≤_, _<_, min, max}
+use Prim.Native.Nat.{ℕ, _*_, _/_, _≤_, _<_, min, max}
 use mathlib.Core.Path.{_≡_}
 use mathlib.Core.List.{List}
 use lib.ListN.{length}
@@ -8,6 +8,7 @@ use Rattle.image.specs.Layout.{Kept}
 use Rattle.image.specs.Plane.{plane, pixel, painted, part, picture}
 use Rattle.imgproc.specs.declared.illumination.BackgroundDivideConfig.{BackgroundDivideConfig}
 use Rattle.imgproc.specs.declared.tally.Tally.{Tally}
+use Rattle.imgproc.specs.Tallies.{Raised, HasRoom, Stands}
 use Rattle.imgproc.specs.Reach.{sweepWalks}
 use Rattle.imgproc.specs.Morphology.{sweptRect, closed}
 use Rattle.imgproc.specs.Refusals.{elementAndRoom}
@@ -43,11 +44,11 @@ pub record FlattenReady (tally : Tally) (src : List ℕ) (g : Geometry) (d : Bac
   pub kernel : 0 < d .«structuring_element»
   pub floor : 0 < d .«denominator_floor»
   pub fits : 6 * (g .width * g .height) ≤ length ws
-  pub room : tally .comparisons + 12 * (g .width * g .height) < 2 ^ 64
+  pub room : HasRoom tally (12 * (g .width * g .height))
 
 pub record Flattened (tally : Tally) (src : List ℕ) (g : Geometry) (d : BackgroundDivideConfig) (ws : List ℕ) (raised : Tally) (ws′ : List ℕ) : Type 0 where
   pub leaves : part (g .width * g .height) (g .width * g .height) ws′ ≡ divided d (g .width) (g .height) (picture src g)
-  pub counted : raised .comparisons ≡ tally .comparisons + 2 * sweepWalks (d .«structuring_element») (g .width) (g .height)
+  pub counted : Raised tally (2 * sweepWalks (d .«structuring_element») (g .width) (g .height)) raised
   pub long : length ws′ ≡ length ws
 
 -- the work of an accepted call
@@ -62,5 +63,5 @@ pub record DivideReady (src : List ℕ) (source : Geometry) (dst : List ℕ) (ta
 
 pub record Divided (src : List ℕ) (source : Geometry) (dst : List ℕ) (target : Geometry) (d : BackgroundDivideConfig) (ws : List ℕ) (raised : Tally) (dst′ ws′ : List ℕ) : Type 0 where
   pub leaves : dst′ ≡ painted (divided d (source .width) (source .height) (picture src source)) (source .width) (source .height) (target .stride) dst
-  pub counted : raised .comparisons ≡ 2 * sweepWalks (d .«structuring_element») (source .width) (source .height)
+  pub counted : Stands raised (2 * sweepWalks (d .«structuring_element») (source .width) (source .height))
   pub long : length ws′ ≡ length ws

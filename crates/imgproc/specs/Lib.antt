@@ -5,6 +5,7 @@ pub mod Fold
 pub mod Reach
 pub mod Extremes
 pub mod Walks
+pub mod Tallies
 pub mod Compared
 pub mod Morphology
 pub mod Sweeps

@@ -1,5 +1,5 @@
 -- The contracts of the four morphology calls: what each answers, and what it leaves in the lent buffers. Definitions only.
-use Prim.Native.Nat.{ℕ, _+_, _*_, _^_, _≤_, _<_}
+use Prim.Native.Nat.{ℕ, _*_, _^_, _≤_, _<_}
 use mathlib.Core.Path.{_≡_}
 use mathlib.Core.List.{List}
 use lib.ListN.{length}
@@ -12,6 +12,7 @@ use Rattle.imgproc.specs.declared.morphology.Operation.the-variants.{Ero
 use Rattle.imgproc.specs.declared.morphology.Compared.{Compared}
 use Rattle.imgproc.specs.declared.morphology.Compared.the-variants.{Comparisons, Refused as Compared·Refused}
 use Rattle.imgproc.specs.declared.tally.Tally.{Tally}
+use Rattle.imgproc.specs.Tallies.{Raised, HasRoom, Stands}
 use Rattle.imgproc.specs.Reach.{sweepWalks, R}
 use Rattle.imgproc.specs.Refusals.{errorNumber, kernelAndRoom}
 use Rattle.imgproc.specs.Calls.{Operator}
@@ -67,11 +68,11 @@ pub record OperateReady (tally : Tally) (d : List ℕ) (k w h : ℕ) : Type 0 wh
   pub fits : 6 * (w * h) ≤ length d
   pub kernel : 0 < k
   pub wide : 0 < w
-  pub room : tally .comparisons + 12 * (w * h) < 2 ^ 64
+  pub room : HasRoom tally (12 * (w * h))
 
 pub record Operated (operation : Operation) (tally : Tally) (d : List ℕ) (k w h : ℕ) (raised : Tally) (d′ : List ℕ) : Type 0 where
   pub leaves : part (w * h) (w * h) d′ ≡ operated operation k w h (part 0 (w * h) d)
-  pub counted : raised .comparisons ≡ tally .comparisons + operationWalks operation k w h
+  pub counted : Raised tally (operationWalks operation k w h) raised
   pub long : length d′ ≡ length d
 
 -- the same with a tally of its own
@@ -83,7 +84,7 @@ pub record CountReady (d : List ℕ) (k w h : ℕ) : Type 0 where
 
 pub record Counts (operation : Operation) (d : List ℕ) (k w h : ℕ) (raised : Tally) (d′ : List ℕ) : Type 0 where
   pub leaves : part (w * h) (w * h) d′ ≡ operated operation k w h (part 0 (w * h) d)
-  pub counted : raised .comparisons ≡ operationWalks operation k w h
+  pub counted : Stands raised (operationWalks operation k w h)
   pub long : length d′ ≡ length d
 
 -- from picture to picture
@@ -97,5 +98,5 @@ pub record RunReady (src : List ℕ) (source : Geometry) (dst : List ℕ) (targe
 
 pub record Runs (operation : Operation) (src : List ℕ) (source : Geometry) (dst : List ℕ) (target : Geometry) (k : ℕ) (ws : List ℕ) (raised : Tally) (dst′ ws′ : List ℕ) : Type 0 where
   pub leaves : dst′ ≡ painted (operated operation k (source .width) (source .height) (picture src source)) (source .width) (source .height) (target .stride) dst
-  pub counted : raised .comparisons ≡ operationWalks operation k (source .width) (source .height)
+  pub counted : Stands raised (operationWalks operation k (source .width) (source .height))
   pub long : length ws′ ≡ length ws

@@ -10,6 +10,7 @@ use Rattle.imgproc.specs.declared.reading.ReadingConfig.{ReadingConfig}
 use Rattle.imgproc.specs.declared.reading.ReadingCounts.{ReadingCounts}
 use Rattle.imgproc.specs.declared.judging.Judged.{Judged}
 use Rattle.imgproc.specs.declared.tally.Tally.{Tally}
+use Rattle.imgproc.specs.Tallies.{Raised, HasRoom}
 use Rattle.imgproc.specs.Reach.{walk, sweepWalks}
 use Rattle.imgproc.specs.Grid.{tilesX, tilesY, skips}
 use Rattle.imgproc.specs.Refusals.{tableEntries}
@@ -62,11 +63,15 @@ pub record OpenReady (tally : Tally) (src : List ℕ) (g : Geometry) (s : Readin
   pub floor : 0 < s .division .«denominator_floor»
   pub kernel : 0 < s .«opening_kernel»
   pub fits : 6 * (g .width * g .height) ≤ length ws
-  pub room : tally .comparisons + 24 * (g .width * g .height) < 2 ^ 64
+  pub room : HasRoom tally (24 * (g .width * g .height))
 
 pub record Opened (tally : Tally) (src : List ℕ) (g : Geometry) (s : ReadingConfig) (ws : List ℕ) (raised : Tally) (ws′ : List ℕ) : Type 0 where
   pub leaves : part 0 (g .width * g .height) ws′ ≡ openedOf s (g .width) (g .height) (picture src g)
-  pub counted : raised .comparisons ≡ tally .comparisons + 2 * sweepWalks (s .division .«structuring_element») (g .width) (g .height) + 2 * sweepWalks (s .«opening_kernel») (g .width) (g .height)
+  pub counted :
+      Raised tally
+      (2 * sweepWalks (s .division .«structuring_element») (g .width) (g .height)
+      + 2 * sweepWalks (s .«opening_kernel») (g .width) (g .height))
+      raised
   pub long : length ws′ ≡ length ws
 
 -- the skips of the opened picture, which stands packed at the workspace's start, written after nine planes

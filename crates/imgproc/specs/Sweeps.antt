@@ -4,10 +4,11 @@ use mathlib.Core.Path.{_≡_}
 use mathlib.Core.Bool.{Bool}
 use mathlib.Core.List.{List}
 use mathlib.Core.Logic.{_⊎_}
-use Prim.Native.Nat.{ℕ, _+_, _-_, _*_, _/_, _^_, _≤_, _<_, min}
+use Prim.Native.Nat.{ℕ, _+_, _-_, _*_, _/_, _≤_, _<_, min}
 use lib.ListN.{length, getD}
 use Rattle.image.specs.Plane.{part}
 use Rattle.imgproc.specs.declared.tally.Tally.{Tally}
+use Rattle.imgproc.specs.Tallies.{Raised, HasRoom}
 use Rattle.imgproc.specs.Extremes.{Extreme, Between}
 use Rattle.imgproc.specs.Reach.{low, high, radius, reachFrom, reachTo, walk, forwardAt, backwardAt, joinAt, lineWalks, rectWalks, sweepWalks}
 use Rattle.imgproc.specs.Compared.{Before, first}
@@ -62,12 +63,12 @@ pub record LanesReady (tally : Tally) (d : List ℕ) (a b to w : ℕ) : Type 0 w
   pub target : to + w ≤ length d
   pub left-apart : Apart a w to w
   pub right-apart : Apart b w to w
-  pub room : tally .comparisons + w < 2 ^ 64
+  pub room : HasRoom tally w
 
 -- a row of lanes met: each lane holds the extreme of its two samples, one comparison each
 pub record LanesMet (tally : Tally) (d : List ℕ) (a b to w : ℕ) (side : Bool) (raised : Tally) (d′ : List ℕ) : Type 0 where
   pub row : Rowed to w (λ x. first side (getD d (a + x) 0) (getD d (b + x) 0)) d d′
-  pub counted : raised .comparisons ≡ tally .comparisons + w
+  pub counted : Raised tally w raised
 
 -- what a forward or backward pass asks
 pub record PassReady (tally : Tally) (d : List ℕ) (from to k w h : ℕ) : Type 0 where
@@ -75,7 +76,7 @@ pub record PassReady (tally : Tally) (d : List ℕ) (from to k w h : ℕ) : Type
   pub target : to + w * h ≤ length d
   pub apart : Apart from (w * h) to (w * h)
   pub kernel : 0 < k
-  pub room : tally .comparisons + w * h < 2 ^ 64
+  pub room : HasRoom tally (w * h)
 
 -- what a joining pass asks
 pub record JoinReady (tally : Tally) (d : List ℕ) (suffix prefix to k w h : ℕ) : Type 0 where
@@ -85,13 +86,13 @@ pub record JoinReady (tally : Tally) (d : List ℕ) (suffix prefix to k w h : �
   pub left-apart : Apart suffix (w * h) to (w * h)
   pub right-apart : Apart prefix (w * h) to (w * h)
   pub kernel : 0 < k
-  pub room : tally .comparisons + w * h < 2 ^ 64
+  pub room : HasRoom tally (w * h)
 
 -- what a pass leaves: at each sample of the plane at `to` what P says, nothing else changed, and the tally raised by w for each line that the test passes
 pub record Passed (P : ℕ → ℕ → ℕ → Type 0) (test : ℕ → Bool) (tally : Tally) (d : List ℕ) (to w h : ℕ) (raised : Tally) (d′ : List ℕ) : Type 0 where
   pub each : (x y : ℕ) → x < w → y < h → P x y (lane d′ to w x y)
   pub rest : Outside to (w * h) d d′
-  pub counted : raised .comparisons ≡ tally .comparisons + walk test h * w
+  pub counted : Raised tally (walk test h * w) raised
 
 -- the three passes
 abbrev pub ForwardPassed : Tally → List ℕ → ℕ → ℕ → ℕ → ℕ → ℕ → Bool → Tally → List ℕ → Type 0
@@ -111,12 +112,12 @@ pub record LinesReady (tally : Tally) (d : List ℕ) (from to spare k w h : ℕ)
   pub source-apart : Apart from (w * h) spare (2 * (w * h))
   pub target-apart : Apart to (w * h) spare (2 * (w * h))
   pub kernel : 0 < k
-  pub room : tally .comparisons + 3 * (w * h) < 2 ^ 64
+  pub room : HasRoom tally (3 * (w * h))
 
 -- each of w lanes of h samples swept: at each sample the extreme of its reach, the walks of each lane counted, and nothing changed but the plane at `to` and the scratch
 pub record LinesSwept (tally : Tally) (d : List ℕ) (from to spare k w h : ℕ) (side : Bool) (raised : Tally) (d′ : List ℕ) : Type 0 where
   pub each : (x y : ℕ) → x < w → y < h → Reached (Before side) k h (lane d from w x) y (lane d′ to w x y)
-  pub counted : raised .comparisons ≡ tally .comparisons + w * lineWalks k h
+  pub counted : Raised tally (w * lineWalks k h) raised
   pub kept : Spared to (w * h) spare (2 * (w * h)) d d′
 
 -- what a sweep of rows or of columns asks: two planes, which are one or lie apart, and 3wh of scratch apart from both
@@ -128,18 +129,18 @@ pub record SweepReady (tally : Tally) (d : List ℕ) (from to spare k w h : ℕ)
   pub target-apart : Apart to (w * h) spare (3 * (w * h))
   pub planes : (from ≡ to) ⊎ Apart from (w * h) to (w * h)
   pub kernel : 0 < k
-  pub room : tally .comparisons + 3 * (w * h) < 2 ^ 64
+  pub room : HasRoom tally (3 * (w * h))
 
 -- each of h rows of w swept
 pub record RowsSwept (tally : Tally) (d : List ℕ) (from to spare k w h : ℕ) (side : Bool) (raised : Tally) (d′ : List ℕ) : Type 0 where
   pub each : (x y : ℕ) → x < w → y < h → Reached (Before side) k w (λ i. lane d from w i y) x (lane d′ to w x y)
-  pub counted : raised .comparisons ≡ tally .comparisons + h * lineWalks k w
+  pub counted : Raised tally (h * lineWalks k w) raised
   pub kept : Spared to (w * h) spare (3 * (w * h)) d d′
 
 -- each of w columns of h swept
 pub record ColumnsSwept (tally : Tally) (d : List ℕ) (from to spare k w h : ℕ) (side : Bool) (raised : Tally) (d′ : List ℕ) : Type 0 where
   pub each : (x y : ℕ) → x < w → y < h → Reached (Before side) k h (lane d from w x) y (lane d′ to w x y)
-  pub counted : raised .comparisons ≡ tally .comparisons + w * lineWalks k h
+  pub counted : Raised tally (w * lineWalks k h) raised
   pub kept : Spared to (w * h) spare (3 * (w * h)) d d′
 
 -- what an erosion or a dilation asks: what its sweeps ask, and room in the tally for both
@@ -147,35 +148,35 @@ pub record MorphReady (tally : Tally) (d : List ℕ) (from to spare kx ky w h : 
   pub rows : SweepReady tally d from to spare kx w h
   pub columns : 0 < ky
   pub wide : 0 < w
-  pub room : tally .comparisons + 6 * (w * h) < 2 ^ 64
+  pub room : HasRoom tally (6 * (w * h))
 
 -- an erosion or a dilation of the packed plane at `from`, left at `to`
 pub record Morphed (tally : Tally) (d : List ℕ) (from to spare kx ky w h : ℕ) (side : Bool) (raised : Tally) (d′ : List ℕ) : Type 0 where
   pub leaves : part to (w * h) d′ ≡ sweptRect (first side) kx ky w h (part from (w * h) d)
-  pub counted : raised .comparisons ≡ tally .comparisons + rectWalks kx ky w h
+  pub counted : Raised tally (rectWalks kx ky w h) raised
   pub kept : Spared to (w * h) spare (3 * (w * h)) d d′
 
 -- what two of them ask, the second of what the first left: what the first asks, and room in the tally for all four sweeps
 pub record PairReady (tally : Tally) (d : List ℕ) (from to spare kx ky w h : ℕ) : Type 0 where
   pub once : MorphReady tally d from to spare kx ky w h
-  pub room : tally .comparisons + 12 * (w * h) < 2 ^ 64
+  pub room : HasRoom tally (12 * (w * h))
 
 -- two of them, of the sides `one` and `two`, of the packed plane at `from`, left at `to`
 pub record PairMorphed (tally : Tally) (d : List ℕ) (from to spare kx ky w h : ℕ) (one two : Bool) (raised : Tally) (d′ : List ℕ) : Type 0 where
   pub leaves : part to (w * h) d′ ≡ sweptRect (first two) kx ky w h (sweptRect (first one) kx ky w h (part from (w * h) d))
-  pub counted : raised .comparisons ≡ tally .comparisons + 2 * rectWalks kx ky w h
+  pub counted : Raised tally (2 * rectWalks kx ky w h) raised
   pub kept : Spared to (w * h) spare (3 * (w * h)) d d′
 
 -- what an opening or a closing asks
 pub record TwiceReady (tally : Tally) (d : List ℕ) (from to spare k w h : ℕ) : Type 0 where
   pub rows : SweepReady tally d from to spare k w h
   pub wide : 0 < w
-  pub room : tally .comparisons + 12 * (w * h) < 2 ^ 64
+  pub room : HasRoom tally (12 * (w * h))
 
 -- an opening (`made` is `opened`) or a closing of the packed plane at `from`, left at `to`
 pub record TwiceMorphed (made : ℕ → ℕ → ℕ → List ℕ → List ℕ) (tally : Tally) (d : List ℕ) (from to spare k w h : ℕ) (raised : Tally) (d′ : List ℕ) : Type 0 where
   pub leaves : part to (w * h) d′ ≡ made k w h (part from (w * h) d)
-  pub counted : raised .comparisons ≡ tally .comparisons + 2 * sweepWalks k w h
+  pub counted : Raised tally (2 * sweepWalks k w h) raised
   pub kept : Spared to (w * h) spare (3 * (w * h)) d d′
 
 -- a plane of `rows` rows of `columns` turned: its columns are the rows of the plane at `to`

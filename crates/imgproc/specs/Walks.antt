@@ -60,6 +60,10 @@ walk-le p (suc n) = let h = walk-le p n in one (p n) h
 pub line-walks-le : (k n : ℕ) → lineWalks k n ≤ 3 * n
 line-walks-le k n = omega (arith, walk-le (forwardAt k) n, walk-le (backwardAt k n) n, walk-le joinAt n)
 
+-- so each of b lines of a
+pub lines-walks-le : (k a b : ℕ) → b * lineWalks k a ≤ 3 * (a * b)
+lines-walks-le k a b = let h : b * lineWalks k a ≤ b * (3 * a) = mul-le-mul-left b (line-walks-le k a) in omega arith
+
 join-walk : (n : ℕ) → walk joinAt n ≡ n
 unfolding walk
 join-walk zero = refl

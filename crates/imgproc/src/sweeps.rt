@@ -7,15 +7,16 @@ use crate::tally::counted;
 use crate::tally::greater;
 use crate::tally::lesser;
 ghost use mathlib.Core.Path.{_≡_};
-ghost use Prim.Native.Nat.{_+_, _*_, _<_, _≤_, _^_};
+ghost use Prim.Native.Nat.{_+_, _*_, _<_, _≤_};
 ghost use lib.ListN.{length, getD};
 ghost use Rattle.imgproc.specs.Reach.{low, high};
+ghost use Rattle.imgproc.specs.Tallies.{HasRoom};
 ghost use Rattle.imgproc.specs.Compared.{Compares, first};
 ghost use Rattle.imgproc.specs.Sweeps.{lane, Apart, Rowed, LanesReady, LanesMet, PassReady, JoinReady, ForwardPassed, BackwardPassed, JoinPassed, LinesReady, LinesSwept, TurnReady, Turned, SweepReady, RowsSwept};
 
 // The lesser of two samples where `side` is true, else the greater.
 fn extreme(tally: Tally, a: u8, b: u8, side: bool) -> Met
-    requires { ⌜ tally .comparisons + 1 < 2 ^ 64 ⌝ }
+    requires { ⌜ HasRoom tally 1 ⌝ }
     ensures { λ r. ⌜ Compares (first side a b) tally r ⌝ }
 {
     if side {

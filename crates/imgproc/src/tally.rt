@@ -2,7 +2,8 @@
 // that it gives, and only `start` makes one. Callers outside the crate have `Tally`, which answers carry, and
 // `comparisons`, which reads its number.
 ghost use mathlib.Core.Path.{_≡_};
-ghost use Prim.Native.Nat.{_+_, _<_, _^_, min, max};
+ghost use Prim.Native.Nat.{min, max};
+ghost use Rattle.imgproc.specs.Tallies.{Raised, HasRoom, Stands};
 ghost use Rattle.imgproc.specs.Compared.{Compares};
 
 // How many times two samples were compared.
@@ -18,7 +19,7 @@ pub(crate) struct Met {
 
 // Takes the tally out, with that comparison in it.
 pub(crate) fn counted(met: Met) -> Tally
-    ensures { λ r. ⌜ r .comparisons ≡ met .tally .comparisons ⌝ }
+    ensures { λ r. ⌜ Raised (met .tally) 0 r ⌝ }
 {
     met.tally
 }
@@ -32,7 +33,7 @@ pub(crate) fn chosen(met: Met) -> u8
 
 // Starts a tally, of no comparisons.
 pub(crate) fn start() -> Tally
-    ensures { λ r. ⌜ r .comparisons ≡ 0 ⌝ }
+    ensures { λ r. ⌜ Stands r 0 ⌝ }
 {
     Tally { comparisons: 0 }
 }
@@ -46,7 +47,7 @@ pub fn comparisons(tally: Tally) -> u64
 
 // The lesser of two samples, counted.
 pub(crate) fn lesser(tally: Tally, a: u8, b: u8) -> Met
-    requires { ⌜ tally .comparisons + 1 < 2 ^ 64 ⌝ }
+    requires { ⌜ HasRoom tally 1 ⌝ }
     ensures { λ r. ⌜ Compares (min a b) tally r ⌝ }
 {
     let raised = tally.comparisons + 1;
@@ -61,7 +62,7 @@ pub(crate) fn lesser(tally: Tally, a: u8, b: u8) -> Met
 
 // The greater of two samples, counted.
 pub(crate) fn greater(tally: Tally, a: u8, b: u8) -> Met
-    requires { ⌜ tally .comparisons + 1 < 2 ^ 64 ⌝ }
+    requires { ⌜ HasRoom tally 1 ⌝ }
     ensures { λ r. ⌜ Compares (max a b) tally r ⌝ }
 {
     let counted = tally.comparisons + 1;

@@ -119,7 +119,8 @@ returns-7 c =
     let a = start (s .before) .args in
     let g = first (s .before) .before .layout .given .0 .0 in
     let room = refusedIf (ltb (length (now (a .workspace))) (7 * (g .width * g .height))) WorkspaceTooSmall in
-    served (pair (s .before)) (then-accepted (divisionSettings (a .config)) room (sym (s .check-settings .ensures) ∙ k .enum-told3 .given .1) ∙ room-enough _ _ (e .if3 .left)) (d .counted) (d .leaves) (d .long)
+    served (pair (s .before)) (then-accepted (divisionSettings (a .config)) room (sym (s .check-settings .ensures) ∙ k .enum-told3 .given .1) ∙ room-enough _ _ (e .if3 .left))
+    (d .counted .at) (d .leaves) (d .long)
 
 pub background-divide-into-spec : {M : Type 1} → statement M
 background-divide-into-spec =

@@ -103,7 +103,8 @@ returns-8 c =
     let e = ran .before .before .before in
     let odd = e .before .before in
     let r = ran .run .ensures in
-    served (pair (odd .before .before)) (kernel-good _ _ (odd .before .if3 .left) (odd .if4 .left) ∙ room-enough _ _ (e .if5 .left)) (r .counted) (r .leaves) (r .long)
+    served (pair (odd .before .before)) (kernel-good _ _ (odd .before .if3 .left) (odd .if4 .left) ∙ room-enough _ _ (e .if5 .left))
+    (r .counted .at) (r .leaves) (r .long)
 
 pub apply-into-spec : {M : Type 1} → statement M
 apply-into-spec =

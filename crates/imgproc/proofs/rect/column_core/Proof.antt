@@ -1,5 +1,6 @@
 -- `column_core` meets its contract: each column is a lane. Assumes nothing.
 use native.Mathlib.Omega.{arith}
+use Rattle.imgproc.specs.Tallies.{room-part}
 use Rattle.imgproc.proofs.Lanes.{apart-within}
 use Rattle.imgproc.proofs.Planes.{off-within}
 use Rattle.imgproc.proofs.rect.column_core.Statement.{statement}
@@ -15,7 +16,7 @@ running-extremum-1d-requires c κs =
       source-apart = apart-within _ _ _ _ (pre .source-apart) (omega arith) (omega arith) (omega arith) (omega arith);
       target-apart = apart-within _ _ _ _ (pre .target-apart) (omega arith) (omega arith) (omega arith) (omega arith);
       kernel = omega arith;
-      room = omega arith;
+      room = room-part _ (pre .room) (omega arith);
     }
 
 same-length : tie.Need-same-length

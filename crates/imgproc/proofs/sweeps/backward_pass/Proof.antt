@@ -1,6 +1,6 @@
 -- `backward_pass` meets its contract: it has come up to line y. Assumes nothing.
 use Prim.Native.Nat.{ℕ, _+_, _-_, _*_, _%_, _≤_}
-use mathlib.Core.Path.{_≡_, refl, sym, _∙_}
+use mathlib.Core.Path.{_≡_, sym, _∙_}
 use mathlib.Core.Bool.{true}
 use mathlib.Core.Logic.{inl, inr, ⊎-elim}
 use native.Mathlib.Omega.{arith}
@@ -17,7 +17,7 @@ use Rattle.imgproc.proofs.sweeps.backward_pass.Tie as tie
 
 abbrev Inv-loop : tie.InvT-loop
 Inv-loop ws₀ from to kernel width height side t₀ y₀ at₀ ws t y at =
-    Upward (λ (x : ℕ). Backwards (Before side) kernel height (lane ws₀ from width x)) (backwardAt kernel height) to width height y at ws₀ ws (t₀ .comparisons) (t .comparisons)
+    Upward (λ (x : ℕ). Backwards (Before side) kernel height (lane ws₀ from width x)) (backwardAt kernel height) to width height y at ws₀ ws t₀ t
 
 abbrev μ-loop : tie.MeasureT-loop
 μ-loop ws₀ from to kernel width height side t₀ y₀ at₀ ws t y at = y
@@ -26,7 +26,7 @@ mul-at : tie.Need-mul-at Inv-loop μ-loop
 mul-at c = omega arith
 
 loop-holds : tie.Need-loop-holds Inv-loop μ-loop
-loop-holds c = up-none _ _ _ _ _ _ _
+loop-holds c = up-none
 
 sub-y : tie.Need-sub-y Inv-loop μ-loop
 sub-y c = search needs
@@ -34,7 +34,7 @@ sub-y c = search needs
 -- a turn's line is within the plane
 fits : (c : tie.In-loop Inv-loop μ-loop)
     → (c .before .before .before .args .width ≤ c .before .loop .at) × (c .before .loop .at ≤ c .before .before .before .args .width * c .before .before .before .args .height)
-fits c = up-fits _ _ _ _ _ _ _ _ _ _ _ (c .before .loop .inv) (c .loop-test .taken)
+fits c = up-fits (c .before .loop .inv) (c .loop-test .taken)
 
 sub-at : tie.Need-sub-at Inv-loop μ-loop
 sub-at c = fits c .0
@@ -71,10 +71,9 @@ loop-again c =
     let joined = called .before .before .before in
     let in-loop = joined .before in
     let start = in-loop .before .before .before in
-    backward-copy (order (start .args .side)) _ (start .pre .kernel) _ _ _ _ (start .pre .apart) _ _ _ _ _ _ _ _ (in-loop .before .loop .inv) (in-loop .loop-test .taken)
+    backward-copy (order (start .args .side)) _ (start .pre .kernel) _ _ _ _ (start .pre .apart) _ _ (in-loop .before .loop .inv) (in-loop .loop-test .taken)
     (⊎-elim (λ w. inl (w .0 .taken)) (λ w. inr (eqb-true _ _ (sym (w .1) ∙ called .before .before .if2 .taken))) (joined .if1 .came))
     (called .copy-lanes .ensures)
-    refl
 
 -- past both halves of the test
 neither : (c : tie.Else2 Inv-loop μ-loop)
@@ -125,7 +124,7 @@ meet-lanes-requires c κs =
       target = omega arith;
       left-apart = record { sides = inr (omega arith) };
       right-apart = apart-within _ _ _ _ (pre .apart) (omega arith) (omega arith) (omega arith) (omega arith);
-      room = omega (arith, up-room _ _ _ _ _ _ _ _ _ _ _ (in-loop .before .loop .inv) (in-loop .loop-test .taken) test);
+      room = up-room (pre .room) (in-loop .before .loop .inv) (in-loop .loop-test .taken) test;
     }
 
 loop-less-2 : tie.Need-loop-less-2 Inv-loop μ-loop
@@ -137,7 +136,7 @@ loop-again-2 c =
     let else2 = called .before .before in
     let in-loop = else2 .before .before in
     let start = in-loop .before .before .before in
-    backward-meet (order (start .args .side)) _ (start .pre .kernel) _ _ _ _ (start .pre .apart) _ _ _ _ _ _ _ _ (in-loop .before .loop .inv) (in-loop .loop-test .taken)
+    backward-meet (order (start .args .side)) _ (start .pre .kernel) _ _ _ _ (start .pre .apart) _ _ (in-loop .before .loop .inv) (in-loop .loop-test .taken)
     (neither else2 .0)
     (neither else2 .1)
     (called .meet-lanes .ensures .row)
@@ -147,7 +146,7 @@ same-length : tie.Need-same-length Inv-loop μ-loop
 same-length c = c .before .loop .inv .lines .rest .long
 
 returns : tie.Need-returns Inv-loop μ-loop
-returns c = up-all _ _ _ _ _ _ _ _ _ _ _ _ refl (c .before .loop .inv) (c .loop-test .left)
+returns c = up-all (c .before .loop .inv) (c .loop-test .left)
 
 pub backward-pass-spec : {M : Type 1} → statement M
 backward-pass-spec =

@@ -1,6 +1,5 @@
 -- `forward_pass` meets its contract: it has come down to line `next`. Assumes nothing.
 use Prim.Native.Nat.{ℕ, _+_, _-_, _*_, _≤_}
-use mathlib.Core.Path.{refl}
 use mathlib.Core.Logic.{inl}
 use native.Mathlib.Omega.{arith}
 use Rattle.imgproc.specs.Reach.{forwardAt}
@@ -15,20 +14,20 @@ use Rattle.imgproc.proofs.sweeps.forward_pass.Tie as tie
 
 abbrev Inv-loop : tie.InvT-loop
 Inv-loop ws₀ from to kernel width height side t₀ next₀ below₀ ws t next below =
-    Downward (λ (x : ℕ). Forwards (Before side) kernel (lane ws₀ from width x)) (forwardAt kernel) to width height next below ws₀ ws (t₀ .comparisons) (t .comparisons)
+    Downward (λ (x : ℕ). Forwards (Before side) kernel (lane ws₀ from width x)) (forwardAt kernel) to width height next below ws₀ ws t₀ t
 
 abbrev μ-loop : tie.MeasureT-loop
 μ-loop ws₀ from to kernel width height side t₀ next₀ below₀ ws t next below = height - next
 
 loop-holds : tie.Need-loop-holds Inv-loop μ-loop
-loop-holds c = down-none _ _ _ _ _ _ _
+loop-holds c = down-none
 
 add-next : tie.Need-add-next Inv-loop μ-loop
 add-next c = search needs
 
 -- a turn's line is within the plane
 fits : (c : tie.In-loop Inv-loop μ-loop) → c .before .loop .below + c .before .before .before .args .width ≤ c .before .before .before .args .width * c .before .before .before .args .height
-fits c = down-fits _ _ _ _ _ _ _ _ _ _ _ (c .before .loop .inv) (c .loop-test .taken)
+fits c = down-fits (c .before .loop .inv) (c .loop-test .taken)
 
 add-below : tie.Need-add-below Inv-loop μ-loop
 add-below c = omega (arith, fits c)
@@ -58,10 +57,9 @@ loop-again c =
     let called = c .before .before in
     let in-loop = called .before .before .before in
     let start = in-loop .before .before .before in
-    forward-copy (order (start .args .side)) _ (start .pre .kernel) _ _ _ _ (start .pre .apart) _ _ _ _ _ _ _ _ (in-loop .before .loop .inv) (in-loop .loop-test .taken)
+    forward-copy (order (start .args .side)) _ (start .pre .kernel) _ _ _ _ (start .pre .apart) _ _ (in-loop .before .loop .inv) (in-loop .loop-test .taken)
     (called .before .before .if1 .taken)
     (called .copy-lanes .ensures)
-    refl
 
 -- and has one above it
 above : (c : tie.Else1 Inv-loop μ-loop) → c .before .before .before .before .args .width ≤ c .before .before .loop .below
@@ -93,7 +91,7 @@ meet-lanes-requires c κs =
       target = omega arith;
       left-apart = record { sides = inl (omega arith) };
       right-apart = apart-within _ _ _ _ (pre .apart) (omega arith) (omega arith) (omega arith) (omega arith);
-      room = omega (arith, down-room _ _ _ _ _ _ _ _ _ _ _ (in-loop .before .loop .inv) (in-loop .loop-test .taken));
+      room = down-room (pre .room) (in-loop .before .loop .inv) (in-loop .loop-test .taken);
     }
 
 loop-less-2 : tie.Need-loop-less-2 Inv-loop μ-loop
@@ -104,7 +102,7 @@ loop-again-2 c =
     let called = c .before .before in
     let in-loop = called .before .before .before in
     let start = in-loop .before .before .before in
-    forward-meet (order (start .args .side)) _ (start .pre .kernel) _ _ _ _ (start .pre .apart) _ _ _ _ _ _ _ _ (in-loop .before .loop .inv) (in-loop .loop-test .taken)
+    forward-meet (order (start .args .side)) _ (start .pre .kernel) _ _ _ _ (start .pre .apart) _ _ (in-loop .before .loop .inv) (in-loop .loop-test .taken)
     (called .before .before .if1 .left)
     (called .meet-lanes .ensures .row)
     (called .meet-lanes .ensures .counted)
@@ -113,7 +111,7 @@ same-length : tie.Need-same-length Inv-loop μ-loop
 same-length c = c .before .loop .inv .lines .rest .long
 
 returns : tie.Need-returns Inv-loop μ-loop
-returns c = down-all _ _ _ _ _ _ _ _ _ _ _ _ refl (c .before .loop .inv) (c .loop-test .left)
+returns c = down-all (c .before .loop .inv) (c .loop-test .left)
 
 pub forward-pass-spec : {M : Type 1} → statement M
 forward-pass-spec =

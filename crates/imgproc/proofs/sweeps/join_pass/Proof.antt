@@ -1,6 +1,5 @@
 -- `join_pass` meets its contract: it has come down to line y. Assumes nothing.
 use Prim.Native.Nat.{ℕ, _+_, _-_, _*_, _≤_}
-use mathlib.Core.Path.{refl}
 use native.Mathlib.Omega.{arith}
 use Rattle.imgproc.specs.Reach.{joinAt}
 use Rattle.imgproc.specs.Compared.{first}
@@ -13,7 +12,7 @@ use Rattle.imgproc.proofs.sweeps.join_pass.Tie as tie
 
 abbrev Inv-loop : tie.InvT-loop
 Inv-loop ws₀ suffix prefix to kernel width height side radius t₀ y₀ at₀ ws t y at =
-    Downward (λ (x : ℕ). Joins (first side) kernel height (lane ws₀ suffix width x) (lane ws₀ prefix width x)) joinAt to width height y at ws₀ ws (t₀ .comparisons) (t .comparisons)
+    Downward (λ (x : ℕ). Joins (first side) kernel height (lane ws₀ suffix width x) (lane ws₀ prefix width x)) joinAt to width height y at ws₀ ws t₀ t
 
 abbrev μ-loop : tie.MeasureT-loop
 μ-loop ws₀ suffix prefix to kernel width height side radius t₀ y₀ at₀ ws t y at = height - y
@@ -22,7 +21,7 @@ sub-radius : tie.Need-sub-radius Inv-loop μ-loop
 sub-radius c = search needs
 
 loop-holds : tie.Need-loop-holds Inv-loop μ-loop
-loop-holds c = down-none _ _ _ _ _ _ _
+loop-holds c = down-none
 
 low-of-requires : tie.Need-low-of-requires Inv-loop μ-loop
 low-of-requires c κs = search needs
@@ -45,7 +44,7 @@ upper : (c : tie.After-high-of Inv-loop μ-loop)
 upper c = let a = c .before .before .before .before .before .args in omega (arith, line-order (a .width) (c .high-of .result) (a .height) (omega arith))
 
 fits : (c : tie.In-loop Inv-loop μ-loop) → c .before .loop .at + c .before .before .before .args .width ≤ c .before .before .before .args .width * c .before .before .before .args .height
-fits c = down-fits _ _ _ _ _ _ _ _ _ _ _ (c .before .loop .inv) (c .loop-test .taken)
+fits c = down-fits (c .before .loop .inv) (c .loop-test .taken)
 
 mul-high : tie.Need-mul-high Inv-loop μ-loop
 mul-high c = omega (arith, upper c)
@@ -73,7 +72,7 @@ meet-lanes-requires c κs =
       target = omega arith;
       left-apart = apart-within _ _ _ _ (pre .left-apart) (omega arith) (omega arith) (omega arith) (omega arith);
       right-apart = apart-within _ _ _ _ (pre .right-apart) (omega arith) (omega arith) (omega arith) (omega arith);
-      room = omega (arith, down-room _ _ _ _ _ _ _ _ _ _ _ (in-loop .before .loop .inv) (in-loop .loop-test .taken));
+      room = down-room (pre .room) (in-loop .before .loop .inv) (in-loop .loop-test .taken);
     }
 
 add-at : tie.Need-add-at Inv-loop μ-loop
@@ -91,7 +90,8 @@ loop-again c =
     let highs = called .before .before in
     let in-loop = highs .before .before in
     let start = in-loop .before .before .before in
-    join-line (first (start .args .side)) _ _ _ _ _ _ (start .pre .left-apart) (start .pre .right-apart) _ _ _ _ _ _ _ _ _ _ (in-loop .before .loop .inv) (in-loop .loop-test .taken)
+    join-line (first (start .args .side)) _ _ _ _ _ _ (start .pre .left-apart) (start .pre .right-apart) _ _ (in-loop .before .loop .inv)
+    (in-loop .loop-test .taken)
     (highs .before .low-of .ensures)
     (highs .high-of .ensures)
     (called .meet-lanes .ensures .row)
@@ -101,7 +101,7 @@ same-length : tie.Need-same-length Inv-loop μ-loop
 same-length c = c .before .loop .inv .lines .rest .long
 
 returns : tie.Need-returns Inv-loop μ-loop
-returns c = down-all _ _ _ _ _ _ _ _ _ _ _ _ refl (c .before .loop .inv) (c .loop-test .left)
+returns c = down-all (c .before .loop .inv) (c .loop-test .left)
 
 pub join-pass-spec : {M : Type 1} → statement M
 join-pass-spec =

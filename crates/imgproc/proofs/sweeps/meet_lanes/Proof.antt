@@ -1,8 +1,9 @@
 -- `meet_lanes` meets its contract: x lanes are met, one comparison each. Assumes nothing.
 use Prim.Native.Nat.{ℕ, _+_, _-_, _≤_}
-use mathlib.Core.Path.{_≡_, _∙_}
+use mathlib.Core.Path.{refl, _∙_}
 use native.Mathlib.Omega.{arith}
 use lib.ListN.{getD}
+use Rattle.imgproc.specs.Tallies.{Raised, raised-none, raised-twice, raised-as, room-left}
 use Rattle.imgproc.specs.Compared.{first}
 use Rattle.imgproc.specs.Sweeps.{Rowed}
 use Rattle.imgproc.proofs.Lanes.{row-none, row-more, row-apart, row-all}
@@ -14,13 +15,13 @@ abbrev Inv-loop : tie.InvT-loop
 Inv-loop ws₀ a b to lanes side t₀ x₀ ws t x =
     (x ≤ lanes)
     × Rowed to x (λ (j : ℕ). first side (getD ws₀ (a + j) 0) (getD ws₀ (b + j) 0)) ws₀ ws
-    × (t .comparisons ≡ t₀ .comparisons + x)
+    × Raised t₀ x t
 
 abbrev μ-loop : tie.MeasureT-loop
 μ-loop ws₀ a b to lanes side t₀ x₀ ws t x = lanes - x
 
 loop-holds : tie.Need-loop-holds Inv-loop μ-loop
-loop-holds c = (omega arith, row-none _ _ _, omega arith)
+loop-holds c = (omega arith, row-none _ _ _, raised-none _)
 
 add-extreme : tie.Need-add-extreme Inv-loop μ-loop
 add-extreme c = search needs
@@ -35,7 +36,9 @@ slice-read-extreme-2 : tie.Need-slice-read-extreme-2 Inv-loop μ-loop
 slice-read-extreme-2 c = search needs
 
 extreme-requires : tie.Need-extreme-requires Inv-loop μ-loop
-extreme-requires c κs = search needs
+extreme-requires c κs =
+    let at-loop = c .before .before .before in
+    room-left 1 (at-loop .before .before .pre .room) (at-loop .loop .inv .2) (omega arith)
 
 counted-requires : tie.Need-counted-requires Inv-loop μ-loop
 counted-requires c κs = search needs
@@ -63,13 +66,19 @@ loop-again c =
     let start = at-loop .before .before in
     let a = row-apart _ _ _ (lp .x) (start .args .a + lp .x) (lp .ws) (lp .inv .1) (start .pre .left-apart) (lp .inv .0) (omega arith) (omega arith) in
     let b = row-apart _ _ _ (lp .x) (start .args .b + lp .x) (lp .ws) (lp .inv .1) (start .pre .right-apart) (lp .inv .0) (omega arith) (omega arith) in
-    (omega arith, row-more _ _ _ (lp .x) _ (lp .ws) (lp .inv .1) (omega arith) (c .chosen .ensures ∙ rw (a, b) at (called .extreme .ensures .chosen)), omega arith)
+    let one-more = raised-twice _ (lp .inv .2) (called .extreme .ensures .counted) refl in (
+      omega arith,
+      row-more _ _ _ (lp .x) _ (lp .ws) (lp .inv .1) (omega arith) (c .chosen .ensures ∙ rw (a, b) at (called .extreme .ensures .chosen)),
+      raised-twice _ one-more (c .before .counted .ensures) (omega arith),
+    )
 
 same-length : tie.Need-same-length Inv-loop μ-loop
 same-length c = c .before .loop .inv .1 .rest .long
 
 returns : tie.Need-returns Inv-loop μ-loop
-returns c = record { row = row-all (c .before .loop .inv .1) (c .before .loop .inv .0) (c .loop-test .left); counted = omega arith }
+returns c =
+    let inv = c .before .loop .inv in
+    record { row = row-all (inv .1) (inv .0) (c .loop-test .left); counted = raised-as _ (inv .2) (omega arith) }
 
 pub meet-lanes-spec : {M : Type 1} → statement M
 meet-lanes-spec =

@@ -1,5 +1,7 @@
 -- `running_extremum_1d` meets its contract: the three passes, one after another. Assumes nothing.
+use Prim.Native.Nat.{_*_}
 use native.Mathlib.Omega.{arith}
+use Rattle.imgproc.specs.Tallies.{room-part}
 use Rattle.imgproc.proofs.Lanes.{apart-within, apart-swap}
 use Rattle.imgproc.proofs.Passes.{lines-swept, passed-room}
 use Rattle.imgproc.proofs.sweeps.running_extremum_1d.Statement.{statement}
@@ -19,7 +21,7 @@ forward-pass-requires c κs =
       target = omega arith;
       apart = apart-within _ _ _ _ (pre .source-apart) (omega arith) (omega arith) (omega arith) (omega arith);
       kernel = pre .kernel;
-      room = omega arith;
+      room = room-part _ (pre .room) (omega arith);
     }
 
 backward-pass-requires : tie.Need-backward-pass-requires
@@ -33,14 +35,16 @@ backward-pass-requires c κs =
       target = omega arith;
       apart = apart-within _ _ _ _ (pre .source-apart) (omega arith) (omega arith) (omega arith) (omega arith);
       kernel = pre .kernel;
-      room = omega (arith, passed-room _ _ _ _ _ (said .counted));
+      room = passed-room _ (pre .room) said (omega arith);
     }
 
 join-pass-requires : tie.Need-join-pass-requires
 join-pass-requires c κs =
     let back = c .before .before .before in
     let forth = back .before .before .before .before in
-    let pre = forth .before .before .before .pre in
+    let start = forth .before .before .before in
+    let a = start .args in
+    let pre = start .pre in
     let first = forth .forward-pass .ensures in
     let second = back .backward-pass .ensures in
     let long = first .rest .long in
@@ -52,7 +56,7 @@ join-pass-requires c κs =
       left-apart = apart-within _ _ _ _ (apart-swap (pre .target-apart)) (omega arith) (omega arith) (omega arith) (omega arith);
       right-apart = apart-within _ _ _ _ (apart-swap (pre .target-apart)) (omega arith) (omega arith) (omega arith) (omega arith);
       kernel = pre .kernel;
-      room = omega (arith, passed-room _ _ _ _ _ (first .counted), passed-room _ _ _ _ _ (second .counted));
+      room = passed-room _ (passed-room (2 * (a .width * a .height)) (pre .room) first (omega arith)) second (omega arith);
     }
 
 same-length : tie.Need-same-length

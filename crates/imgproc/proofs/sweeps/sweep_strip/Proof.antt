@@ -1,6 +1,7 @@
 -- `sweep_strip` meets its contract: turned, swept as lanes, turned back. Assumes nothing.
 use mathlib.Core.Logic.{inl}
 use native.Mathlib.Omega.{arith}
+use Rattle.imgproc.specs.Tallies.{room-part}
 use Rattle.imgproc.proofs.Lanes.{apart-within, apart-swap}
 use Rattle.imgproc.proofs.Planes.{strip-swept}
 use Rattle.imgproc.proofs.sweeps.sweep_strip.Statement.{statement}
@@ -33,7 +34,7 @@ running-extremum-1d-requires c κs =
       source-apart = record { sides = inl (omega arith) };
       target-apart = record { sides = inl (omega arith) };
       kernel = pre .kernel;
-      room = omega arith;
+      room = room-part _ (pre .room) (omega arith);
     }
 
 turn-requires-2 : tie.Need-turn-requires-2
