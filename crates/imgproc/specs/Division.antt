@@ -24,7 +24,7 @@ quotient d source closing = min 255 (source * d .«target_luma» / max closing (
 
 -- a packed picture p divided, pixel by pixel, by the packed backgrounds c
 unfoldable pub dividedBy : BackgroundDivideConfig → ℕ → ℕ → List ℕ → List ℕ → List ℕ
-unfolding plane quotient
+unfolding quotient
 dividedBy d w h p c = plane w h (λ x y. quotient d (pixel p w x y) (pixel c w x y))
 
 -- flattened: each pixel divided by the closing with the element

@@ -93,7 +93,7 @@ byteOf s Skipped = s .«light_value»
 
 -- the picture that a reading leaves in the destination's rows, packed
 unfoldable pub marked : ReadingConfig → ℕ → ℕ → List ℕ → List ℕ
-unfolding judged plane
+unfolding judged
 marked s w h p = plane w h (λ x y. byteOf (s .sauvola) (judged s w h p x y))
 
 -- ---- what is refused, answered and left

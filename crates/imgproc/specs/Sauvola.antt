@@ -64,7 +64,7 @@ verdict config w h p x y = cond (atOrBelow config w h p x y) (config .«dark_val
 
 -- the packed picture of the verdicts on the packed picture p
 unfoldable pub binarised : SauvolaConfig → ℕ → ℕ → List ℕ → List ℕ
-unfolding plane verdict
+unfolding verdict
 binarised config w h p = plane w h (verdict config w h p)
 
 -- what `Binarized` says: a bare success, or the number of the refusal
