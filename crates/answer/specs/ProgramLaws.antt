@@ -58,7 +58,8 @@ printed text before after l x = record {
 module _ (program : List ℕ → List ℕ)
     (starts : (input : List ℕ) (m : ℕ) → inputLimit ≤ m → program (take m input) ≡ program input)
   where
-    pub prints-start : (buffer : List ℕ) (n : ℕ) (got out : List ℕ) {answer : ℕ} (out′ : List ℕ) → ReadPart buffer n got →
+    pub prints-start : (buffer : List ℕ) (n : ℕ) (got out : List ℕ) {answer : ℕ} (out′ : List ℕ)
+        → ReadPart buffer n got →
         Prints (program got) out answer out′ → PrintsStart program buffer n out answer out′
     prints-start buffer n got out {answer} out′ g a = record {
       within = (inside, sym (length-take-le answer out′ inside));

@@ -63,7 +63,8 @@ module _ (input : List ℕ) where
   refused-only n e = go (parsedOf input) (parsed-answers input)
     where
       go : (r : Parsed) → Answers input r → ((n ≡ 11) × (IsPicture input → ⊥)) ⊎ ((n ≡ 1) × IsEmpty input)
-      go Malformed none = inl (refused-once n 11 (sym e ∙ line-other input none), λ p. none (p .width) (p .height) (p .form))
+      go Malformed none =
+          inl (refused-once n 11 (sym e ∙ line-other input none), λ p. none (p .width) (p .height) (p .form))
       go (Picture w h at) p = side (empty w h) refl
         where
           side : (b : Bool) → empty w h ≡ b → ((n ≡ 11) × (IsPicture input → ⊥)) ⊎ ((n ≡ 1) × IsEmpty input)

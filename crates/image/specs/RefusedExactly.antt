@@ -146,7 +146,8 @@ module _ (d : List ℕ) (g : Geometry) (x y : ℕ) where
         go (Invalid e) q = refl
 
 -- `pack` and `unpack`
-copied-through : (len : ℕ) (g : Geometry) (at room : ℕ) → copiedIn (layoutOf len g) at room ≡ answerTo (layoutNumbers len g ++ tooShort g at room) bare
+copied-through : (len : ℕ) (g : Geometry) (at room : ℕ)
+    → copiedIn (layoutOf len g) at room ≡ answerTo (layoutNumbers len g ++ tooShort g at room) bare
 unfolding answerTo
 copied-through len g at room = layout-through g (λ l. copiedIn l at room) (λ e. refl) (tooShort g at room) bare refl len
 

@@ -33,7 +33,8 @@ pub written-none : (f : ℕ → ℕ) (at : ℕ) (d : List ℕ) → d ≡ overwri
 unfolding tabulate
 written-none f at d = sym (ap (λ (k : ℕ). take at d ++ drop k d) (add-zero at) ∙ take-append-drop at d)
 
-pub written-more : (f : ℕ → ℕ) (at t v : ℕ) (d e : List ℕ) → at + t < length d → e ≡ overwritten at (tabulate f t) d → v ≡ f t → set e (at + t) v ≡ overwritten at (tabulate f (t + 1)) d
+pub written-more : (f : ℕ → ℕ) (at t v : ℕ) (d e : List ℕ) → at + t < length d → e ≡ overwritten at (tabulate f t) d
+    → v ≡ f t → set e (at + t) v ≡ overwritten at (tabulate f (t + 1)) d
 written-more f at t v d e h p q =
     let n = length-tabulate f t in
     let fits : at + length (tabulate f t) ≤ length d = omega arith in
@@ -44,5 +45,7 @@ written-more f at t v d e h p q =
     ∙ overwritten-more at (tabulate f t) (f t ∷ []) d fits
     ∙ ap (λ (l : List ℕ). overwritten at l d) (tabulate-more f t)
 
-pub length-written : (f : ℕ → ℕ) (at t : ℕ) (d e : List ℕ) → at + t ≤ length d → e ≡ overwritten at (tabulate f t) d → length e ≡ length d
-length-written f at t d e h p = let n = length-tabulate f t in ap length p ∙ length-overwritten at (tabulate f t) d (omega arith)
+pub length-written : (f : ℕ → ℕ) (at t : ℕ) (d e : List ℕ) → at + t ≤ length d → e ≡ overwritten at (tabulate f t) d
+    → length e ≡ length d
+length-written f at t d e h p =
+    let n = length-tabulate f t in ap length p ∙ length-overwritten at (tabulate f t) d (omega arith)

@@ -37,7 +37,8 @@ module _ {S A : Type 0} (operator : Operator S A) (lent : Loan S) where
 
   -- its answer
   abbrev pub answerOf : Answer A
-  answerOf = answerBy (first conditionsOf) (operator .values (lent .settings) (lent .source .width) (lent .source .height))
+  answerOf =
+      answerBy (first conditionsOf) (operator .values (lent .settings) (lent .source .width) (lent .source .height))
 
   -- the destination with the picture that it makes of its source in the rows
   abbrev pub madeOf : List ℕ

@@ -34,7 +34,8 @@ divided d w h p = dividedBy d w h p (closed (d .«structuring_element») w h p)
 
 -- `background_divide_into`: its conditions, the comparisons of a closing, and the divided picture
 abbrev pub division : Operator BackgroundDivideConfig ℕ
-division = record { own = elementAndRoom; values = λ d w h. 2 * sweepWalks (d .«structuring_element») w h; make = divided }
+division =
+    record { own = elementAndRoom; values = λ d w h. 2 * sweepWalks (d .«structuring_element») w h; make = divided }
 
 -- ---- inside: what the parts of an accepted call ask and leave
 

@@ -17,7 +17,8 @@ use Rattle.imgproc.specs.Root.{rootOf}
 
 -- the Rust's settings: Midrange tiles 16 by 16, radius 1, offset 0, contrast floor 12
 abbrev pub gridDefaults : TileThresholdConfig
-gridDefaults = record { «tile_width» = 16; «tile_height» = 16; «neighborhood_radius» = 1; «threshold_offset» = pos 0; «contrast_floor» = 12; method = Midrange }
+gridDefaults =
+    record { «tile_width» = 16; «tile_height» = 16; «neighborhood_radius» = 1; «threshold_offset» = pos 0; «contrast_floor» = 12; method = Midrange }
 
 -- tiles_x = ⌈w / tile_width⌉
 abbrev pub tilesX : TileThresholdConfig → ℕ → ℕ
@@ -59,7 +60,8 @@ most f b = foldBox max f b
 -- skip: maximum - minimum < contrast_floor
 unfoldable pub skipOf : TileThresholdConfig → ℕ → ℕ → List ℕ → ℕ → ℕ → Bool
 unfolding foldBox
-skipOf g w h p i j = ltb (most (pixel p w) (around g w h i j) - least (pixel p w) (around g w h i j)) (g .«contrast_floor»)
+skipOf g w h p i j =
+    ltb (most (pixel p w) (around g w h i j) - least (pixel p w) (around g w h i j)) (g .«contrast_floor»)
 
 -- a whole number as an f64
 abbrev pub whole : ℕ → Float
@@ -85,7 +87,8 @@ atLeastZero x = cond (lt x nought) nought x
 -- variance = Q / c - mean × mean, zero if below zero
 unfoldable pub varianceOf : ℕ → ℕ → ℕ → Float
 unfolding meanOf ofInt div sub mul lt
-varianceOf S Q c = atLeastZero (sub binary64 (div binary64 (whole Q) (whole c)) (mul binary64 (meanOf S c) (meanOf S c)))
+varianceOf S Q c =
+    atLeastZero (sub binary64 (div binary64 (whole Q) (whole c)) (mul binary64 (meanOf S c) (meanOf S c)))
 
 -- mean × (1 + k × (root / dynamic_range - 1))
 unfoldable pub sauvolaOf : ℕ → ℕ → ℕ → Float → Float → Float

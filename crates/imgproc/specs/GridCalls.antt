@@ -31,7 +31,15 @@ use Rattle.imgproc.specs.declared.grid.TileSkip.the-variants.{Is, Refuse
 use Rattle.imgproc.specs.Reach.{ceiling}
 use Rattle.imgproc.specs.Grid.{tilesX, tilesY, nought, thresholds, skips}
 use Rattle.imgproc.specs.Refusals.{
-  errorNumber, Conditions, first, refusedIf, _then_, answerBy, leftBy, Lent, viewConditions,
+  errorNumber,
+  Conditions,
+  first,
+  refusedIf,
+  _then_,
+  answerBy,
+  leftBy,
+  Lent,
+  viewConditions,
 }
 
 -- ---- build
@@ -47,7 +55,8 @@ usableMethod (Sauvola s) = usableFloats (s .k) (s .«dynamic_range»)
 
 -- zero tile side, or for Sauvola k or dynamic_range not finite or dynamic_range ≤ 0
 unfoldable pub gridSettings : TileThresholdConfig → Conditions
-gridSettings g = refusedIf (eqb (g .«tile_width») 0 || eqb (g .«tile_height») 0 || not (usableMethod (g .method))) InvalidConfiguration
+gridSettings g =
+    refusedIf (eqb (g .«tile_width») 0 || eqb (g .«tile_height») 0 || not (usableMethod (g .method))) InvalidConfiguration
 
 -- t = tiles_x × tiles_y
 abbrev pub tileCount : TileThresholdConfig → ℕ → ℕ → ℕ
@@ -96,7 +105,8 @@ buildConditions lent = buildConditionsBy (gridSettings (lent .settings)) lent
 
 -- the tile counts of what was lent
 abbrev pub tilesFrom : BuildLent → TileCounts
-tilesFrom lent = record { tiles-x = tilesX (lent .settings) (lent .source .width); tiles-y = tilesY (lent .settings) (lent .source .height) }
+tilesFrom lent =
+    record { tiles-x = tilesX (lent .settings) (lent .source .width); tiles-y = tilesY (lent .settings) (lent .source .height) }
 
 -- a build by a list of conditions: the first t bytes of both buffers are the picture's thresholds and skips, and every other byte is as it was
 pub record BuildsBy (cs : Conditions) (lent : BuildLent) (answer : Answer TileCounts) (left : BuildLeft) : Type 0 where

@@ -19,7 +19,8 @@ use Rattle.imgproc.specs.Extremes.{Near, Between, Inside, Some}
 
 -- ⌈n / k⌉ is n / k, and one more if a remainder is left
 pub ceiling-part : (n k : ℕ) → 0 < k → 0 < n % k → n / k + 1 ≡ ceiling n k
-ceiling-part n k K r = sym (div-eq-of-lt-le k (omega (arith, div-add-mod' n k)) (omega (arith, div-add-mod' n k, mod-lt n K)))
+ceiling-part n k K r =
+    sym (div-eq-of-lt-le k (omega (arith, div-add-mod' n k)) (omega (arith, div-add-mod' n k, mod-lt n K)))
 
 pub ceiling-whole : (n k : ℕ) → 0 < k → n % k ≡ 0 → n / k ≡ ceiling n k
 ceiling-whole n k K r = sym (div-eq-of-lt-le k (omega (arith, div-add-mod' n k)) (omega (arith, div-add-mod' n k)))
@@ -34,13 +35,15 @@ tile-starts n t i T I = omega (arith, le-div-iff-mul-le {k = t} {x = suc i} {y =
 
 -- there are no more tiles than samples, and some where there is one
 pub ceiling-small : (n t : ℕ) → 0 < t → ceiling n t ≤ n
-ceiling-small n t T = omega (arith, div-lt-iff-lt-mul {k = t} {x = n + t - 1} {y = suc n} T .1 (omega (arith, suc-mul n t, mul-le-mul-left n T)))
+ceiling-small n t T =
+    omega (arith, div-lt-iff-lt-mul {k = t} {x = n + t - 1} {y = suc n} T .1 (omega (arith, suc-mul n t, mul-le-mul-left n T)))
 
 pub ceiling-some : (n t : ℕ) → 0 < t → 0 < n → 0 < ceiling n t
 ceiling-some n t T N = le-div-iff-mul-le {k = t} {x = 1} {y = n + t - 1} T .1 (omega arith)
 
 -- a picture within the side limit has no more tiles than the limit
-pub tiles-small : {w h s t tx ty : ℕ} → tx ≡ ceiling w s → ty ≡ ceiling h t → 0 < s → 0 < t → w ≤ sideLimit → h ≤ sideLimit
+pub tiles-small : {w h s t tx ty : ℕ} → tx ≡ ceiling w s → ty ≡ ceiling h t → 0 < s → 0 < t → w ≤ sideLimit
+    → h ≤ sideLimit
     → tx * ty ≤ tilesLimit
 tiles-small {w} {h} {s} {t} {tx} {ty} X Y S T W H =
     sides-small tx ty (omega (arith, X, W, ceiling-small w s S)) (omega (arith, Y, H, ceiling-small h t T))
@@ -48,19 +51,33 @@ tiles-small {w} {h} {s} {t} {tx} {ty} X Y S T W H =
 -- ---- skips
 
 -- a contrast floor of 0 never skips, whatever the picture
-pub floor-0 : (g : TileThresholdConfig) (w h : ℕ) (p : List ℕ) (i j : ℕ) → g .«contrast_floor» ≡ 0 → skipOf g w h p i j ≡ false
+pub floor-0 : (g : TileThresholdConfig) (w h : ℕ) (p : List ℕ) (i j : ℕ) → g .«contrast_floor» ≡ 0
+    → skipOf g w h p i j ≡ false
 unfolding skipOf
-floor-0 g w h p i j z = rw z (le-ltb (most (pixel p w) (around g w h i j) - least (pixel p w) (around g w h i j)) 0 (omega arith))
+floor-0 g w h p i j z =
+    rw z (le-ltb (most (pixel p w) (around g w h i j) - least (pixel p w) (around g w h i j)) 0 (omega arith))
 
 -- ---- which pixels
 
 -- the neighbourhood of a tile holds, along an axis of n with tiles of t, just the samples whose tile is within the radius of tile a
-pub near-tiles : (r n t a i : ℕ) → 0 < t → i < n → Between (tileFrom t (low r a)) (tileTo t n (high r (ceiling n t) a)) i ↔ Near r a (i / t)
+pub near-tiles : (r n t a i : ℕ) → 0 < t → i < n
+    → Between (tileFrom t (low r a)) (tileTo t n (high r (ceiling n t) a)) i ↔ Near r a (i / t)
 near-tiles r n t a i T I =
     let top = high r (ceiling n t) a in
     let last : i / t ≤ ceiling n t - 1 = omega (arith, le-div-iff-mul-le {k = t} {x = suc (i / t)} {y = n + t - 1} T .1 (omega (arith, suc-mul (i / t) t, div-mul-le-self i t))) in (
-      λ p. omega (arith, le-div-iff-mul-le {k = t} {x = low r a} {y = i} T .1 (p .0), div-lt-iff-lt-mul {k = t} {x = i} {y = suc top} T .1 (omega (arith, suc-mul top t))),
-      λ p. omega (arith, le-div-iff-mul-le {k = t} {x = low r a} {y = i} T .0 (omega arith), div-lt-iff-lt-mul {k = t} {x = i} {y = suc top} T .0 (omega arith), suc-mul top t),
+      λ p. omega (
+        arith,
+        le-div-iff-mul-le {k =
+            t} {x = low r a} {y = i} T .1 (p .0),
+        div-lt-iff-lt-mul {k = t} {x = i} {y = suc top} T .1 (omega (arith, suc-mul top t)),
+      ),
+      λ p. omega (
+        arith,
+        le-div-iff-mul-le {k =
+            t} {x = low r a} {y = i} T .0 (omega arith),
+        div-lt-iff-lt-mul {k = t} {x = i} {y = suc top} T .0 (omega arith),
+        suc-mul top t,
+      ),
     )
 
 -- the neighbourhood of tile (a, b) holds just the pixels whose tile is within the radius on both axes
@@ -76,7 +93,8 @@ axis-some r n t a T A =
     let e : a * t / t ≡ a = mul-div-cancel a T in
     let b = near-tiles r n t a (a * t) T (tile-starts n t a T A) .1 (omega arith) in omega arith
 
-pub around-some : (g : TileThresholdConfig) (w h a b : ℕ) → 0 < g .«tile_width» → 0 < g .«tile_height» → a < tilesX g w → b < tilesY g h → Some (around g w h a b)
+pub around-some : (g : TileThresholdConfig) (w h a b : ℕ) → 0 < g .«tile_width» → 0 < g .«tile_height» → a < tilesX g w
+    → b < tilesY g h → Some (around g w h a b)
 around-some g w h a b W H A B = record {
   across = axis-some (g .«neighborhood_radius») w (g .«tile_width») a W A;
   down = axis-some (g .«neighborhood_radius») h (g .«tile_height») b H B;

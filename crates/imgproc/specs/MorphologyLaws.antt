@@ -22,7 +22,8 @@ pub reach-some : (k n i : ℕ) → 0 < k → i < n → reachFrom k n i ≤ reach
 unfolding reachFrom reachTo
 reach-some k n i K h = go (oneBlock k n i)
   where
-    go : (b : Bool) → cond b (k * (low (radius k) i / k)) (low (radius k) i) ≤ cond b (min (k * (low (radius k) i / k) + k - 1) (n - 1)) (high (radius k) n i)
+    go : (b : Bool)
+        → cond b (k * (low (radius k) i / k)) (low (radius k) i) ≤ cond b (min (k * (low (radius k) i / k) + k - 1) (n - 1)) (high (radius k) n i)
     go true = omega (arith, div-add-mod (low (radius k) i) k)
     go false = omega arith
 
@@ -44,21 +45,24 @@ module _ {R : ℕ → ℕ → Type 0} {op : ℕ → ℕ → ℕ} (o : Order R op
   some x y l m = record { across = reach-some kx w x X l; down = reach-some ky h y Y m }
 
   -- what erosion (`lowest`) and dilation (`highest`) are: at each pixel a bound of its reach that is attained there
-  pub swept-extreme : (x y : ℕ) → x < w → y < h → Extreme R (Inside (reachBox kx ky w h x y)) (λ q. pixel p w (q .0) (q .1)) (pixel (sweptRect op kx ky w h p) w x y)
+  pub swept-extreme : (x y : ℕ) → x < w → y < h
+      → Extreme R (Inside (reachBox kx ky w h x y)) (λ q. pixel p w (q .0) (q .1)) (pixel (sweptRect op kx ky w h p) w x y)
   unfolding sweptRect
   swept-extreme x y l m =
       rw (pixel-plane w h (λ x y. foldBox op (pixel p w) (reachBox kx ky w h x y)) x y l m) (fold-box-extreme o (pixel p w) (reachBox kx ky w h x y) (some x y l m))
 
   -- and nothing else is
   pub is-swept : (q : List ℕ) → 0 < w → length q ≡ w * h
-      → ((x y : ℕ) → x < w → y < h → Extreme R (Inside (reachBox kx ky w h x y)) (λ q. pixel p w (q .0) (q .1)) (pixel q w x y)) → q ≡ sweptRect op kx ky w h p
+      → ((x y : ℕ) → x < w → y < h → Extreme R (Inside (reachBox kx ky w h x y)) (λ q. pixel p w (q .0) (q .1)) (pixel q w x y))
+      → q ≡ sweptRect op kx ky w h p
   unfolding sweptRect
   is-swept q W l each =
       is-plane w h (λ x y. foldBox op (pixel p w) (reachBox kx ky w h x y)) q W l
       (λ x y a b. is-fold-box o (pixel p w) (reachBox kx ky w h x y) (some x y a b) (each x y a b))
 
 -- the comparisons of each call are R(k), or twice that
-pub operation-walks : (operation : Operation) (k w h : ℕ) → 0 < k → operationWalks operation k w h ≡ operationR operation k w h
+pub operation-walks : (operation : Operation) (k w h : ℕ) → 0 < k
+    → operationWalks operation k w h ≡ operationR operation k w h
 operation-walks Erode k w h K = sweep-walks k K w h
 operation-walks Dilate k w h K = sweep-walks k K w h
 operation-walks Open k w h K = ap (λ (n : ℕ). 2 * n) (sweep-walks k K w h)

@@ -28,7 +28,8 @@ reachTo k n i = cond (oneBlock k n i) (min (k * (low (radius k) i / k) + k - 1) 
 
 -- the reach of x times the reach of y, with the kernel kx along the rows and ky along the columns
 abbrev pub reachBox : ℕ → ℕ → ℕ → ℕ → ℕ → ℕ → Box
-reachBox kx ky w h x y = record { left = reachFrom kx w x; right = reachTo kx w x; top = reachFrom ky h y; bottom = reachTo ky h y }
+reachBox kx ky w h x y =
+    record { left = reachFrom kx w x; right = reachTo kx w x; top = reachFrom ky h y; bottom = reachTo ky h y }
 
 -- how many indices below n pass a test: a walk along the line
 unfoldable pub walk : (ℕ → Bool) → ℕ → ℕ

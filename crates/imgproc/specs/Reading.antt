@@ -22,7 +22,18 @@ use Rattle.imgproc.specs.Morphology.{sweptRect, opened}
 use Rattle.imgproc.specs.Division.{divided}
 use Rattle.imgproc.specs.Grid.{skipOf}
 use Rattle.imgproc.specs.Refusals.{
-  errorNumber, Conditions, first, refusedIf, _then_, answerBy, leftBy, Lent, pairConditions, badKernel, divisionSettings, sauvolaSettings,
+  errorNumber,
+  Conditions,
+  first,
+  refusedIf,
+  _then_,
+  answerBy,
+  leftBy,
+  Lent,
+  pairConditions,
+  badKernel,
+  divisionSettings,
+  sauvolaSettings,
   tableEntries,
 }
 use Rattle.imgproc.specs.GridCalls.{gridSettings, tileCount}

@@ -18,7 +18,8 @@ use Rattle.imgproc.specs.Walks.{same-walk, walk-le, reading-below}
 use Rattle.imgproc.specs.Reading.{isDark, isLight, isSkipped, judged, pixels, comparisonsOf, readingOf}
 
 -- three tests of which each index passes one
-three : (a b c : ℕ → Bool) → ((i : ℕ) → bit (a i) + bit (b i) + bit (c i) ≡ 1) → (n : ℕ) → walk a n + walk b n + walk c n ≡ n
+three : (a b c : ℕ → Bool) → ((i : ℕ) → bit (a i) + bit (b i) + bit (c i) ≡ 1) → (n : ℕ)
+    → walk a n + walk b n + walk c n ≡ n
 unfolding walk
 three a b c h zero = refl
 three a b c h (suc n) = omega (arith, three a b c h n, h n)
@@ -29,7 +30,8 @@ one-of Light = refl
 one-of Skipped = refl
 
 -- the three counts add up to w × h
-pub adds-up : (s : ReadingConfig) (w h : ℕ) (p : List ℕ) → readingOf s w h p .dark + readingOf s w h p .light + readingOf s w h p .skipped ≡ w * h
+pub adds-up : (s : ReadingConfig) (w h : ℕ) (p : List ℕ)
+    → readingOf s w h p .dark + readingOf s w h p .light + readingOf s w h p .skipped ≡ w * h
 unfolding readingOf pixels
 adds-up s w h p =
     let j : ℕ → Judgement = λ i. judged s w h p (i % w) (i / w) in three (λ i. isDark (j i)) (λ i. isLight (j i)) (λ i. isSkipped (j i)) (λ i. one-of (j i)) (w * h)
@@ -38,7 +40,8 @@ adds-up s w h p =
 walk-none : (test : ℕ → Bool) (n : ℕ) → walk test n ≡ 0 → (i : ℕ) → i < n → test i ≡ false
 unfolding walk
 walk-none test zero e i l = absurd (omega arith)
-walk-none test (suc n) e i l = ⊎-elim (λ q. last (test n) q refl) (λ q. walk-none test n (omega arith) i q) (eq-or-lt-of-le {n = i} {m = n} (omega arith))
+walk-none test (suc n) e i l =
+    ⊎-elim (λ q. last (test n) q refl) (λ q. walk-none test n (omega arith) i q) (eq-or-lt-of-le {n = i} {m = n} (omega arith))
   where
     last : (b : Bool) → i ≡ n → test n ≡ b → test i ≡ false
     last false q t = ap test q ∙ t
@@ -47,7 +50,8 @@ walk-none test (suc n) e i l = ⊎-elim (λ q. last (test n) q refl) (λ q. walk
 no-walk : (test : ℕ → Bool) (n : ℕ) → ((i : ℕ) → i < n → test i ≡ false) → walk test n ≡ 0
 unfolding walk
 no-walk test zero h = refl
-no-walk test (suc n) h = let z : bit (test n) ≡ 0 = ap bit (h n (omega arith)) in let w = no-walk test n (λ i l. h i (omega arith)) in omega arith
+no-walk test (suc n) h =
+    let z : bit (test n) ≡ 0 = ap bit (h n (omega arith)) in let w = no-walk test n (λ i l. h i (omega arith)) in omega arith
 
 -- tests that agree on every pixel count the same pixels, and one that none passes counts none
 pub pixels-same : (w h : ℕ) (a b : ℕ → ℕ → Bool) → ((x y : ℕ) → a x y ≡ b x y) → pixels w h a ≡ pixels w h b
@@ -59,21 +63,26 @@ unfolding pixels
 pixels-empty w h test e = no-walk (λ i. test (i % w) (i / w)) (w * h) (λ i l. e (i % w) (i / w))
 
 -- dark is 0 exactly when no pixel is judged dark
-pub none-dark : (s : ReadingConfig) (w h : ℕ) (p : List ℕ) → readingOf s w h p .dark ≡ 0 → (x y : ℕ) → x < w → y < h → isDark (judged s w h p x y) ≡ false
+pub none-dark : (s : ReadingConfig) (w h : ℕ) (p : List ℕ) → readingOf s w h p .dark ≡ 0 → (x y : ℕ) → x < w → y < h
+    → isDark (judged s w h p x y) ≡ false
 unfolding readingOf pixels
 none-dark s w h p e x y X Y =
     ap₂′ (walk-none (λ i. isDark (judged s w h p (i % w) (i / w))) (w * h) e (y * w + x) (in-plane w h x y X Y))
   where
     ap₂′ : isDark (judged s w h p ((y * w + x) % w) ((y * w + x) / w)) ≡ false → isDark (judged s w h p x y) ≡ false
-    ap₂′ q = ap (λ (n : ℕ). isDark (judged s w h p n y)) (sym (digits-mod y X)) ∙ ap (λ (n : ℕ). isDark (judged s w h p ((y * w + x) % w) n)) (sym (digits-div y X)) ∙ q
+    ap₂′ q =
+        ap (λ (n : ℕ). isDark (judged s w h p n y)) (sym (digits-mod y X))
+        ∙ ap (λ (n : ℕ). isDark (judged s w h p ((y * w + x) % w) n)) (sym (digits-div y X)) ∙ q
 
-pub dark-none : (s : ReadingConfig) (w h : ℕ) (p : List ℕ) → 0 < w → ((x y : ℕ) → x < w → y < h → isDark (judged s w h p x y) ≡ false) → readingOf s w h p .dark ≡ 0
+pub dark-none : (s : ReadingConfig) (w h : ℕ) (p : List ℕ) → 0 < w
+    → ((x y : ℕ) → x < w → y < h → isDark (judged s w h p x y) ≡ false) → readingOf s w h p .dark ≡ 0
 unfolding readingOf pixels
 dark-none s w h p W n =
     no-walk (λ i. isDark (judged s w h p (i % w) (i / w))) (w * h) (λ i l. n (i % w) (i / w) (mod-lt i W) (div-lt-iff-lt-mul W .1 (omega (arith, mul-comm w h))))
 
 -- the comparisons stay below 24wh
-pub comparisons-below : (s : ReadingConfig) (w h : ℕ) → 0 < w → 0 < h → 0 < s .division .«structuring_element» → 0 < s .«opening_kernel» → comparisonsOf s w h < 24 * (w * h)
+pub comparisons-below : (s : ReadingConfig) (w h : ℕ) → 0 < w → 0 < h → 0 < s .division .«structuring_element»
+    → 0 < s .«opening_kernel» → comparisonsOf s w h < 24 * (w * h)
 comparisons-below s w h W H K M = reading-below w h W H (s .division .«structuring_element») (s .«opening_kernel») K M
 
 -- ---- counting row by row
@@ -88,7 +97,8 @@ unfolding pixels walk
 pixels-none w test = ap (walk (λ i. test (i % w) (i / w))) (mul-zero w)
 
 -- a row more
-pub pixels-row : (w y : ℕ) (test : ℕ → ℕ → Bool) → 0 < w → pixels w (y + 1) test ≡ pixels w y test + walk (λ x. test x y) w
+pub pixels-row : (w y : ℕ) (test : ℕ → ℕ → Bool) → 0 < w
+    → pixels w (y + 1) test ≡ pixels w y test + walk (λ x. test x y) w
 unfolding pixels
 pixels-row w y test W =
     let p : ℕ → Bool = λ i. test (i % w) (i / w) in

@@ -27,7 +27,8 @@ module _ (a : AcceptedReading) where
   left-is = a .reads .leaves ∙ rw (said a .0)
 
   -- each pixel of the rows holds the byte of its judgement
-  pub pixel-holds : (x y : ℕ) → x < wide a → y < high a → pixel (a .left .dst) stride x y ≡ byteOf (settingsOf a .sauvola) (judgedHere a x y)
+  pub pixel-holds : (x y : ℕ) → x < wide a → y < high a
+      → pixel (a .left .dst) stride x y ≡ byteOf (settingsOf a .sauvola) (judgedHere a x y)
   unfolding marked
   pixel-holds x y X Y =
       let p = pair a in
@@ -36,11 +37,13 @@ module _ (a : AcceptedReading) where
       ∙ pixel-plane (wide a) (high a) (λ x y. byteOf (settingsOf a .sauvola) (judgedHere a x y)) x y X Y
 
   -- one judged dark holds dark_value
-  pub dark-holds : (x y : ℕ) → x < wide a → y < high a → judgedHere a x y ≡ Dark → pixel (a .left .dst) stride x y ≡ settingsOf a .sauvola .«dark_value»
+  pub dark-holds : (x y : ℕ) → x < wide a → y < high a → judgedHere a x y ≡ Dark
+      → pixel (a .left .dst) stride x y ≡ settingsOf a .sauvola .«dark_value»
   dark-holds x y X Y d = pixel-holds x y X Y ∙ ap (byteOf (settingsOf a .sauvola)) d
 
   -- every other one light_value
-  pub other-holds : (x y : ℕ) → x < wide a → y < high a → (judgedHere a x y ≡ Dark → ⊥) → pixel (a .left .dst) stride x y ≡ settingsOf a .sauvola .«light_value»
+  pub other-holds : (x y : ℕ) → x < wide a → y < high a → (judgedHere a x y ≡ Dark → ⊥)
+      → pixel (a .left .dst) stride x y ≡ settingsOf a .sauvola .«light_value»
   other-holds x y X Y n = pixel-holds x y X Y ∙ other (judgedHere a x y) n
     where
       other : (j : Judgement) → (j ≡ Dark → ⊥) → byteOf (settingsOf a .sauvola) j ≡ settingsOf a .sauvola .«light_value»
@@ -49,7 +52,8 @@ module _ (a : AcceptedReading) where
       other Skipped n = refl
 
   -- each byte outside the rows what it held, and there are as many
-  pub outside-holds : (i : ℕ) → i < length (a .lent .dst) → ((i % stride < wide a) × (i / stride < high a) → ⊥) → getD (a .left .dst) i 0 ≡ getD (a .lent .dst) i 0
+  pub outside-holds : (i : ℕ) → i < length (a .lent .dst) → ((i % stride < wide a) × (i / stride < high a) → ⊥)
+      → getD (a .left .dst) i 0 ≡ getD (a .lent .dst) i 0
   outside-holds i l n =
       ap (λ (d : List ℕ). getD d i 0) left-is
       ∙ painted-byte _ (wide a) (high a) stride (a .lent .dst) i l
@@ -83,7 +87,8 @@ module _ (a b : AcceptedReading) (settings : settingsOf a ≡ settingsOf b) (as-
   pub numbers-agree : a .numbers ≡ b .numbers
   numbers-agree = numbers-are a ∙ numbers-same settings as-wide as-high one-picture ∙ sym (numbers-are b)
 
-  pub rows-agree : (x y : ℕ) → x < wide a → y < high a → pixel (a .left .dst) (a .lent .target .stride) x y ≡ pixel (b .left .dst) (b .lent .target .stride) x y
+  pub rows-agree : (x y : ℕ) → x < wide a → y < high a
+      → pixel (a .left .dst) (a .lent .target .stride) x y ≡ pixel (b .left .dst) (b .lent .target .stride) x y
   rows-agree x y X Y =
       pixel-holds a x y X Y
       ∙ byte-same settings as-wide as-high one-picture x y

@@ -29,8 +29,23 @@ use Rattle.imgproc.specs.GridLaws.{floor-0}
 use Rattle.imgproc.specs.GridCalls.{gridSettings}
 use Rattle.imgproc.specs.Sauvola.{thresholdAt, atOrBelow}
 use Rattle.imgproc.specs.Reading.{
-  isDark, isLight, isSkipped, openedOf, judgedOver, judged, pixels, comparisonsOf, ReadingNumbers, readingOf, readingSettings, readingRoom,
-  ReadingLent, ReadingLeft, readingConditions, numbersFrom, Reads,
+  isDark,
+  isLight,
+  isSkipped,
+  openedOf,
+  judgedOver,
+  judged,
+  pixels,
+  comparisonsOf,
+  ReadingNumbers,
+  readingOf,
+  readingSettings,
+  readingRoom,
+  ReadingLent,
+  ReadingLeft,
+  readingConditions,
+  numbersFrom,
+  Reads,
 }
 use Rattle.imgproc.specs.ReadingLaws.{adds-up, comparisons-below, pixels-same, pixels-empty}
 
@@ -91,20 +106,23 @@ module _ (s : ReadingConfig) (w h : ℕ) (p : List ℕ) (x y : ℕ) where
   -- a pixel is judged dark exactly when its tile is not skipped and its flattened, opened value is at most the directly summed threshold
   pub dark-exactly : (judged s w h p x y ≡ Dark) ↔ ((skipHere s w h p x y ≡ false) × (valueHere s w h p x y ≤ thresholdHere s w h p x y))
   dark-exactly = (
-    λ d. let c = chosen-dark (skipHere s w h p x y) (atMost s w h p x y) (sym judged-by ∙ d) in (c .0, leb-true _ _ (c .1)),
+    λ d. let c =
+        chosen-dark (skipHere s w h p x y) (atMost s w h p x y) (sym judged-by ∙ d) in (c .0, leb-true _ _ (c .1)),
     λ c. judged-by ∙ rw (c .0, le-leb _ _ (c .1)),
   )
 
   -- light exactly when its tile is not skipped and that value is above that threshold
   pub light-exactly : (judged s w h p x y ≡ Light) ↔ ((skipHere s w h p x y ≡ false) × (thresholdHere s w h p x y < valueHere s w h p x y))
   light-exactly = (
-    λ d. let c = chosen-light (skipHere s w h p x y) (atMost s w h p x y) (sym judged-by ∙ d) in (c .0, leb-false _ _ (c .1)),
+    λ d. let c =
+        chosen-light (skipHere s w h p x y) (atMost s w h p x y) (sym judged-by ∙ d) in (c .0, leb-false _ _ (c .1)),
     λ c. judged-by ∙ rw (c .0, lt-leb _ _ (c .1)),
   )
 
   -- skipped exactly when its tile is
   pub skipped-exactly : (judged s w h p x y ≡ Skipped) ↔ (skipHere s w h p x y ≡ true)
-  skipped-exactly = (λ d. chosen-skipped (skipHere s w h p x y) (atMost s w h p x y) (sym judged-by ∙ d), λ c. judged-by ∙ rw c)
+  skipped-exactly =
+      (λ d. chosen-skipped (skipHere s w h p x y) (atMost s w h p x y) (sym judged-by ∙ d), λ c. judged-by ∙ rw c)
 
 -- ---- an accepted reading
 
@@ -180,11 +198,14 @@ module _ (a : AcceptedReading) where
 
   -- the three counts add up to w × h
   pub add-up : a .numbers .dark + a .numbers .light + a .numbers .skipped ≡ wide * high
-  add-up = ap (λ (n : ReadingNumbers). n .dark + n .light + n .skipped) numbers-are ∙ adds-up settingsOf wide high sourceOf
+  add-up =
+      ap (λ (n : ReadingNumbers). n .dark + n .light + n .skipped) numbers-are ∙ adds-up settingsOf wide high sourceOf
 
   -- a contrast floor of 0 never skips
   pub floor-0-skips-none : settingsOf .grid .«contrast_floor» ≡ 0 → a .numbers .skipped ≡ 0
-  floor-0-skips-none z = skipped-counted ∙ pixels-empty wide high (skipHere settingsOf wide high sourceOf) (λ x y. floor-0 (settingsOf .grid) wide high (openedOf settingsOf wide high sourceOf) (x / settingsOf .grid .«tile_width») (y / settingsOf .grid .«tile_height») z)
+  floor-0-skips-none z =
+      skipped-counted
+      ∙ pixels-empty wide high (skipHere settingsOf wide high sourceOf) (λ x y. floor-0 (settingsOf .grid) wide high (openedOf settingsOf wide high sourceOf) (x / settingsOf .grid .«tile_width») (y / settingsOf .grid .«tile_height») z)
 
   kernels : (3 ≤ settingsOf .division .«structuring_element») × (3 ≤ settingsOf .«opening_kernel»)
   unfolding readingSettings

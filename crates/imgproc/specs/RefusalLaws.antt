@@ -20,7 +20,16 @@ use Rattle.imgproc.specs.declared.ImgProcError.the-variants.{Image, Dime
 use Rattle.imgproc.specs.declared.Check.{Check}
 use Rattle.imgproc.specs.declared.Check.the-variants.{Accepted, Refused}
 use Rattle.imgproc.specs.Refusals.{
-  Conditions, first, refusedIf, _then_, answerBy, passedOn, viewConditions, pairConditions, badKernel, divisionSettings,
+  Conditions,
+  first,
+  refusedIf,
+  _then_,
+  answerBy,
+  passedOn,
+  viewConditions,
+  pairConditions,
+  badKernel,
+  divisionSettings,
 }
 
 never : (e : ImgProcError) → Refused e ≡ Accepted → ⊥
@@ -44,7 +53,8 @@ unfolding first
 first-then [] b = refl
 first-then (c ∷ cs) b = step (c .fits) (first-then cs b)
   where
-    step : (f : Bool) → first (cs then b) ≡ follow (first cs) (first b) → cond f (Refused (c .refusal)) (first (cs then b)) ≡ follow (cond f (Refused (c .refusal)) (first cs)) (first b)
+    step : (f : Bool) → first (cs then b) ≡ follow (first cs) (first b)
+        → cond f (Refused (c .refusal)) (first (cs then b)) ≡ follow (cond f (Refused (c .refusal)) (first cs)) (first b)
     step true p = refl
     step false p = p
 
@@ -75,7 +85,8 @@ pub refuses : (f : Bool) (e : ImgProcError) (rest : Conditions) → f ≡ true �
 unfolding first
 refuses f e rest p = rw p
 
-pub passes : (f : Bool) (e : ImgProcError) (rest : Conditions) → f ≡ false → first (refusedIf f e then rest) ≡ first rest
+pub passes : (f : Bool) (e : ImgProcError) (rest : Conditions) → f ≡ false
+    → first (refusedIf f e then rest) ≡ first rest
 unfolding first
 passes f e rest p = rw p
 
@@ -105,7 +116,8 @@ unfolding first
 layout-on g [] = refl
 layout-on g (c ∷ cs) = step (c .fits) (layout-on g cs)
   where
-    step : (f : Bool) → first (passedOn cs) ≡ layoutCheck (layoutBy g cs) → cond f (Refused (Image (c .refusal))) (first (passedOn cs)) ≡ layoutCheck (cond f (Invalid (c .refusal)) (layoutBy g cs))
+    step : (f : Bool) → first (passedOn cs) ≡ layoutCheck (layoutBy g cs)
+        → cond f (Refused (Image (c .refusal))) (first (passedOn cs)) ≡ layoutCheck (cond f (Invalid (c .refusal)) (layoutBy g cs))
     step true p = refl
     step false p = p
 
@@ -134,7 +146,8 @@ pub kernel-says : (k : ℕ) → badKernel k ≡ false → 3 ≤ k
 kernel-says k p = ltb-false k 3 (neither (ltb k 3) (eqb (k % 2) 0) p .0)
 
 -- nor is the element of accepted settings below 3, and their floor is not 0
-pub division-says : (d : BackgroundDivideConfig) → first (divisionSettings d) ≡ Accepted → (3 ≤ d .«structuring_element») × (0 < d .«denominator_floor»)
+pub division-says : (d : BackgroundDivideConfig) → first (divisionSettings d) ≡ Accepted
+    → (3 ≤ d .«structuring_element») × (0 < d .«denominator_floor»)
 unfolding divisionSettings
 division-says d p =
     let floor = eqb (d .«denominator_floor») 0 in
@@ -165,7 +178,8 @@ pub record Pair (srcLen : ℕ) (src : Geometry) (dstLen : ℕ) (dst : Geometry) 
   pub wide : src .width ≡ dst .width
   pub high : src .height ≡ dst .height
 
-pub pair-says : (srcLen : ℕ) (src : Geometry) (dstLen : ℕ) (dst : Geometry) → first (pairConditions srcLen src dstLen dst) ≡ Accepted → Pair srcLen src dstLen dst
+pub pair-says : (srcLen : ℕ) (src : Geometry) (dstLen : ℕ) (dst : Geometry)
+    → first (pairConditions srcLen src dstLen dst) ≡ Accepted → Pair srcLen src dstLen dst
 pair-says srcLen src dstLen dst p =
     let sizes = eqb (src .width) (dst .width) && eqb (src .height) (dst .height) in
     let last = refusedIf (not sizes) DimensionMismatch in

@@ -13,7 +13,12 @@ use Rattle.imgproc.specs.declared.illumination.BackgroundDivideConfig.{B
 use Rattle.imgproc.specs.declared.threshold.SauvolaConfig.{SauvolaConfig}
 use Rattle.imgproc.specs.declared.ImgProcError.{ImgProcError}
 use Rattle.imgproc.specs.declared.ImgProcError.the-variants.{
-  Image, DimensionMismatch, InvalidKernel, InvalidConfiguration, WorkspaceTooSmall, GridBufferTooSmall,
+  Image,
+  DimensionMismatch,
+  InvalidKernel,
+  InvalidConfiguration,
+  WorkspaceTooSmall,
+  GridBufferTooSmall,
 }
 use Rattle.imgproc.specs.declared.Check.{Check}
 use Rattle.imgproc.specs.declared.Check.the-variants.{Accepted, Refused}
@@ -96,7 +101,8 @@ kernelAndRoom kernel g room =
 
 -- division settings: the element under 3 or even, or denominator_floor 0, is 7
 unfoldable pub divisionSettings : BackgroundDivideConfig → Conditions
-divisionSettings d = refusedIf (badKernel (d .«structuring_element») || eqb (d .«denominator_floor») 0) InvalidConfiguration
+divisionSettings d =
+    refusedIf (badKernel (d .«structuring_element») || eqb (d .«denominator_floor») 0) InvalidConfiguration
 
 -- Division: the settings; the byte workspace under 7wh
 abbrev pub elementAndRoom : BackgroundDivideConfig → Geometry → ℕ → Conditions

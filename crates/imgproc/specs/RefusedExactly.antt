@@ -14,8 +14,21 @@ use Rattle.imgproc.specs.declared.grid.TileThresholdGrid.{TileThresholdG
 use Rattle.imgproc.specs.Refusals.{errorNumber, Conditions, first, answerBy}
 use Rattle.imgproc.specs.Calls.{Operator, Loan, Left, conditionsOf, Serves}
 use Rattle.imgproc.specs.GridCalls.{
-  BuildLent, BuildLeft, TileCounts, tilesFrom, buildConditions, Builds, pixelConditions, rowConditions, tileOf, tileRowOf, skipped,
-  allSkipped, thresholdAsked, skipAsked, rowSkipAsked,
+  BuildLent,
+  BuildLeft,
+  TileCounts,
+  tilesFrom,
+  buildConditions,
+  Builds,
+  pixelConditions,
+  rowConditions,
+  tileOf,
+  tileRowOf,
+  skipped,
+  allSkipped,
+  thresholdAsked,
+  skipAsked,
+  rowSkipAsked,
 }
 use Rattle.imgproc.specs.Reading.{ReadingNumbers, ReadingLent, ReadingLeft, numbersFrom, readingConditions, Reads}
 
@@ -40,7 +53,8 @@ record RefusedBy (c : Check) : Type 0 where
   is : c ≡ Refused kind
 
 module _ {A : Type 0} (values : A) where
-  by-list : (cs : Conditions) {answer : Answer A} → answer ≡ answerBy (first cs) values → Exactly (numbers cs) values answer
+  by-list : (cs : Conditions) {answer : Answer A} → answer ≡ answerBy (first cs) values
+      → Exactly (numbers cs) values answer
   by-list cs is = exactly values (numbers cs) (is ∙ answer-is cs values)
 
   -- a refused answer comes from a check that refuses
@@ -74,13 +88,16 @@ module _ {lent : BuildLent} {answer : Answer TileCounts} {left : BuildLeft} (bui
 
 -- ---- the queries, which are lent nothing that they write to
 module _ (q : TileThresholdGrid) (d : List ℕ) where
-  pub threshold-exactly : (x y : ℕ) → Exactly (numbers (pixelConditions q (length d) x y)) (getD d (tileOf q x y) 0) (thresholdAsked q d x y)
+  pub threshold-exactly : (x y : ℕ)
+      → Exactly (numbers (pixelConditions q (length d) x y)) (getD d (tileOf q x y) 0) (thresholdAsked q d x y)
   threshold-exactly x y = by-list (getD d (tileOf q x y) 0) (pixelConditions q (length d) x y) refl
 
-  pub skip-exactly : (x y : ℕ) → Exactly (numbers (pixelConditions q (length d) x y)) (skipped d (tileOf q x y)) (skipAsked q d x y)
+  pub skip-exactly : (x y : ℕ)
+      → Exactly (numbers (pixelConditions q (length d) x y)) (skipped d (tileOf q x y)) (skipAsked q d x y)
   skip-exactly x y = by-list (skipped d (tileOf q x y)) (pixelConditions q (length d) x y) refl
 
-  pub row-skip-exactly : (y : ℕ) → Exactly (numbers (rowConditions q (length d) y)) (allSkipped d (tileRowOf q y) (q .«tiles_x»)) (rowSkipAsked q d y)
+  pub row-skip-exactly : (y : ℕ)
+      → Exactly (numbers (rowConditions q (length d) y)) (allSkipped d (tileRowOf q y) (q .«tiles_x»)) (rowSkipAsked q d y)
   row-skip-exactly y = by-list (allSkipped d (tileRowOf q y) (q .«tiles_x»)) (rowConditions q (length d) y) refl
 
 -- ---- the reading
@@ -88,7 +105,8 @@ module _ {lent : ReadingLent} {answer : Answer ReadingNumbers} {left : ReadingLe
   pub reading-exactly : Exactly (numbers (readingConditions lent)) (numbersFrom lent) answer
   reading-exactly = by-list (numbersFrom lent) (readingConditions lent) (reads .answers)
 
-  pub reading-keeps : {n : ℕ} → answer ≡ refused n → (left .dst ≡ lent .dst) × ((left .bytes ≡ lent .bytes) × (left .words ≡ lent .words))
+  pub reading-keeps : {n : ℕ} → answer ≡ refused n
+      → (left .dst ≡ lent .dst) × ((left .bytes ≡ lent .bytes) × (left .words ≡ lent .words))
   reading-keeps p =
       let r = turned (numbersFrom lent) (first (readingConditions lent)) (sym (reads .answers) ∙ p) .is in
       (reads .leaves ∙ rw r, (rw r at (reads .bytes-left), rw r at (reads .words-left)))

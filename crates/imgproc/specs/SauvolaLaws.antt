@@ -34,7 +34,8 @@ count-some b s =
     subst (λ (n : ℕ). 0 < n) (sym (count-is b s)) (mul-pos (omega arith) (omega arith))
 
 -- ⌊Q/c⌋ is never below mean²: the variance's subtraction is not cut off
-pub mean-square-le : (f : ℕ → ℕ → ℕ) (b : Box) → Some b → mean (sum f b) (count b) * mean (sum f b) (count b) ≤ sumSquares f b / count b
+pub mean-square-le : (f : ℕ → ℕ → ℕ) (b : Box) → Some b
+    → mean (sum f b) (count b) * mean (sum f b) (count b) ≤ sumSquares f b / count b
 mean-square-le f b s =
     rw (fold-box-sum f b s, fold-box-sum (squared f) b s, count-is b s)
     (mean-square (λ i j. f (b .left + i) (b .top + j)) (b .right + 1 - b .left) (b .bottom + 1 - b .top)

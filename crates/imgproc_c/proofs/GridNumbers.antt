@@ -22,7 +22,15 @@ use Rattle.imgproc.specs.declared.grid.TileThresholdMethod.the-variants.{Sauvol
 use Rattle.imgproc.specs.declared.grid.TileThresholdConfig.{TileThresholdConfig}
 use Rattle.imgproc.specs.Grid.{nought}
 use Rattle.imgproc.specs.GridCalls.{
-  gridSettings, tileCount, gridRoom, BuildLent, BuildLeft, TileCounts, tilesFrom, buildConditions, Builds,
+  gridSettings,
+  tileCount,
+  gridRoom,
+  BuildLent,
+  BuildLeft,
+  TileCounts,
+  tilesFrom,
+  buildConditions,
+  Builds,
 }
 use Rattle.imgproc.specs.Refusals.{first, _then_, refusedIf, answerBy, viewConditions}
 use Rattle.imgproc.specs.RefusalLaws.{then-same, refuses, passes, refuses-last}

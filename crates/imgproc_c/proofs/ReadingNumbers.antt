@@ -17,7 +17,14 @@ use Rattle.imgproc.specs.declared.grid.TileThresholdMethod.{TileThresholdMethod
 use Rattle.imgproc.specs.declared.threshold.SauvolaConfig.{SauvolaConfig}
 use Rattle.imgproc.specs.GridCalls.{gridSettings}
 use Rattle.imgproc.specs.Reading.{
-  ReadingLent, ReadingLeft, ReadingNumbers, numbersFrom, readingSettings, readingRoom, readingConditions, Reads,
+  ReadingLent,
+  ReadingLeft,
+  ReadingNumbers,
+  numbersFrom,
+  readingSettings,
+  readingRoom,
+  readingConditions,
+  Reads,
 }
 use Rattle.imgproc.specs.Refusals.{first, _then_, refusedIf, answerBy, pairConditions, badKernel, divisionSettings, sauvolaSettings}
 use Rattle.imgproc.specs.RefusalLaws.{then-same}

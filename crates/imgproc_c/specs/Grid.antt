@@ -37,7 +37,8 @@ settings width height radius offset floor method = record {
 
 -- the grid of flat numbers
 abbrev pub grid : ℕ → ℕ → ℕ → ℕ → ℕ → ℕ → TileThresholdGrid
-grid w h tw th x y = record { width = w; height = h; «tile_width» = tw; «tile_height» = th; «tiles_x» = x; «tiles_y» = y }
+grid w h tw th x y =
+    record { width = w; height = h; «tile_width» = tw; «tile_height» = th; «tiles_x» = x; «tiles_y» = y }
 
 -- the layout; the method, before the settings; the settings; the room
 abbrev pub numberConditions : ℕ → BuildLent → Conditions

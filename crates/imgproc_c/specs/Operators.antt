@@ -5,7 +5,8 @@ use Rattle.imgproc.specs.declared.threshold.SauvolaConfig.{SauvolaConfig}
 
 -- a division's: the element, the target and the floor
 abbrev pub divisionFrom : ℕ → ℕ → ℕ → BackgroundDivideConfig
-divisionFrom element target floor = record { «structuring_element» = element; «target_luma» = target; «denominator_floor» = floor }
+divisionFrom element target floor =
+    record { «structuring_element» = element; «target_luma» = target; «denominator_floor» = floor }
 
 -- a threshold's: the radius, k_milli, the range, the dark value and the light one
 abbrev pub sauvolaFrom : ℕ → ℕ → ℕ → ℕ → ℕ → SauvolaConfig

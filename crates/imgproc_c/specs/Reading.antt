@@ -14,7 +14,8 @@ use Rattle.imgproc_c.specs.Grid.{methodConditions}
 
 -- the settings of the parts
 abbrev pub readingFrom : BackgroundDivideConfig → ℕ → TileThresholdConfig → SauvolaConfig → ReadingConfig
-readingFrom division kernel grid sauvola = record { division = division; «opening_kernel» = kernel; grid = grid; sauvola = sauvola }
+readingFrom division kernel grid sauvola =
+    record { division = division; «opening_kernel» = kernel; grid = grid; sauvola = sauvola }
 
 -- the division's settings; m; the method, before the grid's settings; the threshold's
 unfoldable pub numberSettings : ℕ → ReadingConfig → Conditions

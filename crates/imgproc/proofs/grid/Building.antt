@@ -16,7 +16,16 @@ use Rattle.imgproc.specs.declared.Check.{Check}
 use Rattle.imgproc.specs.declared.Check.the-variants.{Accepted, Refused}
 use Rattle.imgproc.specs.Grid.{tilesX, tilesY}
 use Rattle.imgproc.specs.GridCalls.{
-  gridSettings, tileCount, gridRoom, BuildLent, BuildLeft, TileCounts, buildConditions, Builds, Rooms, Fills,
+  gridSettings,
+  tileCount,
+  gridRoom,
+  BuildLent,
+  BuildLeft,
+  TileCounts,
+  buildConditions,
+  Builds,
+  Rooms,
+  Fills,
 }
 use Rattle.imgproc.specs.Refusals.{errorNumber, Conditions, first, _then_, viewConditions}
 use Rattle.imgproc.specs.Tiles.{Sized}
