@@ -10,7 +10,7 @@ use lib.ListN.{length, getD}
 use Rattle.image.specs.Plane.{part}
 use Rattle.image.specs.PlaneLaws.{in-plane, length-part, getD-part}
 use Rattle.imgproc.specs.declared.tally.Tally.{Tally}
-use Rattle.imgproc.specs.Tallies.{Raised, HasRoom, raised-none, raised-twice, raised-as, room-part, room-left}
+use Rattle.imgproc.specs.Tallies.{Raised, HasRoom, raised-none, raised-twice, room-part, room-left}
 use Rattle.imgproc.specs.Extremes.{Extreme, Between, Inside}
 use Rattle.imgproc.specs.Reach.{reachBox, reachFrom, reachTo, lineWalks}
 use Rattle.imgproc.specs.Walks.{cases, lines-walks-le}
@@ -55,7 +55,7 @@ module _ (tally : Tally) (d : List ℕ) (from to spare k w h : ℕ) (side : Bool
     each = λ x i l m. absurd (omega arith);
     ahead = λ j l m. refl;
     kept = record { long = refl; same = λ j p q. refl };
-    counted = raised-as _ (raised-none tally) (omega arith);
+    counted = raised-none (omega arith);
   }
 
   module _ (y n : ℕ) (c : Tally) (a : List ℕ) (s : Sweeping tally d from to spare k w h side y c a) (fits : y + n ≤ h) where
@@ -76,7 +76,7 @@ module _ (tally : Tally) (d : List ℕ) (from to spare k w h : ℕ) (side : Bool
           target-apart = apart-within _ _ _ _ (ready .target-apart) (omega arith) (omega arith) (omega arith) (omega arith);
           planes = ⊎-elim (λ e. inl (omega arith)) (λ p. inr (apart-within _ _ _ _ p (omega arith) (omega arith) (omega arith) (omega arith))) (ready .planes);
           kernel = ready .kernel;
-          room = room-left _ (ready .room) (s .counted) (omega arith);
+          room = room-left (ready .room) (s .counted) (omega arith);
         }
 
     module _ (r : Tally) (b : List ℕ) (strip : RowsSwept c a (from + y * w) (to + y * w) spare k w n side r b) where
@@ -120,7 +120,7 @@ module _ (tally : Tally) (d : List ℕ) (from to spare k w h : ℕ) (side : Bool
               long = strip .kept .long ∙ s .kept .long;
               same = λ j p q. still j (off-within (to + y * w) (w * n) p (omega arith) (omega arith)) q ∙ s .kept .same j p q;
             };
-            counted = raised-twice _ (s .counted) (strip .counted) (add-mul y n (lineWalks k w));
+            counted = raised-twice (s .counted) (strip .counted) (add-mul y n (lineWalks k w));
           }
 
   pub sweeping-all : (y : ℕ) (c : Tally) (a : List ℕ) → Sweeping tally d from to spare k w h side y c a → h ≤ y → RowsSwept tally d from to spare k w h side c a
@@ -155,7 +155,7 @@ module _ (side : Bool) (kx ky from to spare w h : ℕ) (t a : Tally) (d e : List
   pub columns-ready : SweepReady a e to to spare ky w h
   columns-ready =
       let most = lines-walks-le kx w h in
-      sweep-again (ready .rows) (across .kept) (ready .columns) (room-left _ (ready .room) (across .counted) (omega arith))
+      sweep-again (ready .rows) (across .kept) (ready .columns) (room-left (ready .room) (across .counted) (omega arith))
 
   module _ (r : Tally) (g : List ℕ) (down : ColumnsSwept a e to to spare ky w h side r g) where
     both : (x y : ℕ) → x < w → y < h → Extreme (Before side) (Inside (reachBox kx ky w h x y)) (λ p. lane d from w (p .0) (p .1)) (lane g to w x y)
@@ -186,7 +186,7 @@ module _ (side : Bool) (kx ky from to spare w h : ℕ) (t a : Tally) (d e : List
               let Y′ = reach-in ky h y (ready .columns) Y in
               sym (getD-part from (w * h) d (p .source) (q .1 * w + q .0) (in-plane w h (q .0) (q .1) (omega arith) (omega arith))))
               (both x y X Y)));
-          counted = raised-twice _ (across .counted) (down .counted) refl;
+          counted = raised-twice (across .counted) (down .counted) refl;
           kept = record {
             long = down .kept .long ∙ across .kept .long;
             same = λ j u v. down .kept .same j u v ∙ across .kept .same j u v;
@@ -201,13 +201,13 @@ module _ (one : Bool) (kx ky from to spare w h : ℕ) (t a : Tally) (d e : List 
       let across = lines-walks-le kx w h in
       let down = lines-walks-le ky h w in
       let p = ready .once in
-      let room = room-left (6 * (w * h)) (ready .room) (once .counted) (omega arith) in
-      record { rows = sweep-again (p .rows) (once .kept) (p .rows .kernel) (room-part _ room (omega arith)); columns = p .columns; wide = p .wide; room = room }
+      let room = room-left {l = 6 * (w * h)} (ready .room) (once .counted) (omega arith) in
+      record { rows = sweep-again (p .rows) (once .kept) (p .rows .kernel) (room-part room (omega arith)); columns = p .columns; wide = p .wide; room = room }
 
   pub pair-morphed : (two : Bool) (r : Tally) (g : List ℕ) → Morphed a e to to spare kx ky w h two r g → PairMorphed t d from to spare kx ky w h one two r g
   pair-morphed two r g again = record {
     leaves = again .leaves ∙ ap (sweptRect (first two) kx ky w h) (once .leaves);
-    counted = raised-twice _ (once .counted) (again .counted) (omega arith);
+    counted = raised-twice (once .counted) (again .counted) (omega arith);
     kept = record {
       long = again .kept .long ∙ once .kept .long;
       same = λ j u v. again .kept .same j u v ∙ once .kept .same j u v;
@@ -216,7 +216,7 @@ module _ (one : Bool) (kx ky from to spare w h : ℕ) (t a : Tally) (d e : List 
 
 -- ---- an opening or a closing: two of them with the kernel k
 pub pair-ready : {t : Tally} {d : List ℕ} {from to spare k w h : ℕ} → TwiceReady t d from to spare k w h → PairReady t d from to spare k k w h
-pair-ready p = record { once = record { rows = p .rows; columns = p .rows .kernel; wide = p .wide; room = room-part _ (p .room) (omega arith) }; room = p .room }
+pair-ready p = record { once = record { rows = p .rows; columns = p .rows .kernel; wide = p .wide; room = room-part (p .room) (omega arith) }; room = p .room }
 
 pub twice-morphed : (one two : Bool) {t r : Tally} {d g : List ℕ} {from to spare k w h : ℕ} → PairMorphed t d from to spare k k w h one two r g
     → TwiceMorphed (λ k w h p. swept (first two) k w h (swept (first one) k w h p)) t d from to spare k w h r g

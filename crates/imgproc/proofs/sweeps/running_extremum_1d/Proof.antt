@@ -21,7 +21,7 @@ forward-pass-requires c κs =
       target = omega arith;
       apart = apart-within _ _ _ _ (pre .source-apart) (omega arith) (omega arith) (omega arith) (omega arith);
       kernel = pre .kernel;
-      room = room-part _ (pre .room) (omega arith);
+      room = room-part (pre .room) (omega arith);
     }
 
 backward-pass-requires : tie.Need-backward-pass-requires
@@ -35,7 +35,7 @@ backward-pass-requires c κs =
       target = omega arith;
       apart = apart-within _ _ _ _ (pre .source-apart) (omega arith) (omega arith) (omega arith) (omega arith);
       kernel = pre .kernel;
-      room = passed-room _ (pre .room) said (omega arith);
+      room = passed-room (pre .room) said (omega arith);
     }
 
 join-pass-requires : tie.Need-join-pass-requires
@@ -56,7 +56,7 @@ join-pass-requires c κs =
       left-apart = apart-within _ _ _ _ (apart-swap (pre .target-apart)) (omega arith) (omega arith) (omega arith) (omega arith);
       right-apart = apart-within _ _ _ _ (apart-swap (pre .target-apart)) (omega arith) (omega arith) (omega arith) (omega arith);
       kernel = pre .kernel;
-      room = passed-room _ (passed-room (2 * (a .width * a .height)) (pre .room) first (omega arith)) second (omega arith);
+      room = passed-room (passed-room {l = 2 * (a .width * a .height)} (pre .room) first (omega arith)) second (omega arith);
     }
 
 same-length : tie.Need-same-length

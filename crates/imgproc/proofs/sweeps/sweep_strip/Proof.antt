@@ -34,7 +34,7 @@ running-extremum-1d-requires c κs =
       source-apart = record { sides = inl (omega arith) };
       target-apart = record { sides = inl (omega arith) };
       kernel = pre .kernel;
-      room = room-part _ (pre .room) (omega arith);
+      room = room-part (pre .room) (omega arith);
     }
 
 turn-requires-2 : tie.Need-turn-requires-2
