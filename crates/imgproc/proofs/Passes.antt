@@ -94,10 +94,10 @@ module _ (op : ℕ → ℕ → ℕ) (k suffix prefix to w h : ℕ)
       (raised-as e (omega arith))
 
 -- ---- the three passes: at each sample of each lane the extreme of its reach. The scratch at `spare` holds the forward extremes, then the backward ones
-pub lines-swept : (side : Bool) (k from to spare w h : ℕ) (t a b r : Tally) (d e f g : List ℕ) → 0 < k → Apart from (w * h) spare (2 * (w * h))
+pub lines-swept : {side : Bool} {k from to spare w h : ℕ} {t a b r : Tally} {d e f g : List ℕ} → 0 < k → Apart from (w * h) spare (2 * (w * h))
     → ForwardPassed t d from spare k w h side a e → BackwardPassed a e from (spare + w * h) k w h side b f → JoinPassed b f (spare + w * h) spare to k w h side r g
     → LinesSwept t d from to spare k w h side r g
-lines-swept side k from to spare w h t a b r d e f g pos apart forth back joined = record {
+lines-swept {side} {k} {from} {to} {spare} {w} {h} {d = d} {f = f} {g = g} pos apart forth back joined = record {
   each = λ x y X Y.
       reached (order side) k pos (lane d from w x) h (lane f (spare + w * h) w x) (lane f spare w x)
       (λ j l.

@@ -26,9 +26,9 @@ pub off-within : {at n j : ℕ} (a m : ℕ) → Off at n j → at ≤ a → a + 
 off-within a m p l h = record { side = ⊎-elim (λ s. inl (omega arith)) (λ s. inr (omega arith)) (p .side) }
 
 -- ---- a strip: turned, swept as lanes, turned back
-pub strip-swept : (side : Bool) (k from to spare w h : ℕ) (t r : Tally) (d e f g : List ℕ) → 0 < k
+pub strip-swept : {side : Bool} {k from to spare w h : ℕ} {t r : Tally} {d e f g : List ℕ} → 0 < k
     → Turned d from spare h w e → LinesSwept t e spare spare (spare + w * h) k h w side r f → Turned f spare to w h g → RowsSwept t d from to spare k w h side r g
-strip-swept side k from to spare w h t r d e f g pos there swept back = record {
+strip-swept {k = k} {spare = spare} {w = w} {h = h} pos there swept back = record {
   each = λ x y X Y. rw (back .each y x Y X) (seen (λ i s. there .each i y (omega (arith, reach-in k w x pos X)) Y) (swept .each y x Y X));
   counted = swept .counted;
   kept = record {
@@ -149,7 +149,7 @@ sweep-again p s kernel room =
     }
 
 -- ---- a sweep of the rows, then of the columns
-module _ (side : Bool) (kx ky from to spare w h : ℕ) (t a : Tally) (d e : List ℕ) (ready : MorphReady t d from to spare kx ky w h)
+module _ {side : Bool} {kx ky from to spare w h : ℕ} {t a : Tally} {d e : List ℕ} (ready : MorphReady t d from to spare kx ky w h)
     (across : RowsSwept t d from to spare kx w h side a e) where
   -- what the second asks
   pub columns-ready : SweepReady a e to to spare ky w h
@@ -157,7 +157,7 @@ module _ (side : Bool) (kx ky from to spare w h : ℕ) (t a : Tally) (d e : List
       let most = lines-walks-le kx w h in
       sweep-again (ready .rows) (across .kept) (ready .columns) (room-left (ready .room) (across .counted) (omega arith))
 
-  module _ (r : Tally) (g : List ℕ) (down : ColumnsSwept a e to to spare ky w h side r g) where
+  module _ {r : Tally} {g : List ℕ} (down : ColumnsSwept a e to to spare ky w h side r g) where
     both : (x y : ℕ) → x < w → y < h → Extreme (Before side) (Inside (reachBox kx ky w h x y)) (λ p. lane d from w (p .0) (p .1)) (lane g to w x y)
     both x y X Y =
         let col = down .each x y X Y in
@@ -194,7 +194,7 @@ module _ (side : Bool) (kx ky from to spare w h : ℕ) (t a : Tally) (d e : List
         }
 
 -- ---- two of them, the second of what the first left
-module _ (one : Bool) (kx ky from to spare w h : ℕ) (t a : Tally) (d e : List ℕ) (ready : PairReady t d from to spare kx ky w h)
+module _ {one : Bool} {kx ky from to spare w h : ℕ} {t a : Tally} {d e : List ℕ} (ready : PairReady t d from to spare kx ky w h)
     (once : Morphed t d from to spare kx ky w h one a e) where
   pub again-ready : MorphReady a e to to spare kx ky w h
   again-ready =
@@ -204,8 +204,8 @@ module _ (one : Bool) (kx ky from to spare w h : ℕ) (t a : Tally) (d e : List 
       let room = room-left {l = 6 * (w * h)} (ready .room) (once .counted) (omega arith) in
       record { rows = sweep-again (p .rows) (once .kept) (p .rows .kernel) (room-part room (omega arith)); columns = p .columns; wide = p .wide; room = room }
 
-  pub pair-morphed : (two : Bool) (r : Tally) (g : List ℕ) → Morphed a e to to spare kx ky w h two r g → PairMorphed t d from to spare kx ky w h one two r g
-  pair-morphed two r g again = record {
+  pub pair-morphed : {two : Bool} {r : Tally} {g : List ℕ} → Morphed a e to to spare kx ky w h two r g → PairMorphed t d from to spare kx ky w h one two r g
+  pair-morphed {two} again = record {
     leaves = again .leaves ∙ ap (sweptRect (first two) kx ky w h) (once .leaves);
     counted = raised-twice (once .counted) (again .counted) (omega arith);
     kept = record {

@@ -72,17 +72,7 @@ returns c =
     let back = joined .before .before .before .before in
     let forth = back .before .before .before .before in
     let start = forth .before .before .before in
-    let a = start .args in
-    let p = start .pre in
-    let f = forth .forward-pass in
-    let b = back .backward-pass in
-    let j = joined .join-pass in
-    lines-swept (a .side) (a .kernel) (a .from) (a .to) (a .spare) (a .width) (a .height) (a .tally) (f .result) (b .result) (j .result) (a .ws .now) (f .last .1 .0) (b .last .1 .0) (j .last .1 .0)
-    (p .kernel)
-    (p .source-apart)
-    (f .ensures)
-    (b .ensures)
-    (j .ensures)
+    lines-swept (start .pre .kernel) (start .pre .source-apart) (forth .forward-pass .ensures) (back .backward-pass .ensures) (joined .join-pass .ensures)
 
 pub running-extremum-1d-spec : {M : Type 1} → statement M
 running-extremum-1d-spec =
