@@ -48,7 +48,7 @@ pub record Sweeping (tally : Tally) (d : List ℕ) (from to spare k w h : ℕ) (
   pub kept : Spared to (w * h) spare (3 * (w * h)) d d′
   pub counted : Raised tally (y * lineWalks k w) raised
 
-module _ (tally : Tally) (d : List ℕ) (from to spare k w h : ℕ) (side : Bool) (ready : SweepReady tally d from to spare k w h) where
+module _ {tally : Tally} {d : List ℕ} {from to spare k w h : ℕ} {side : Bool} (ready : SweepReady tally d from to spare k w h) where
   pub sweeping-none : Sweeping tally d from to spare k w h side 0 tally d
   sweeping-none = record {
     inside = omega arith;
@@ -58,7 +58,7 @@ module _ (tally : Tally) (d : List ℕ) (from to spare k w h : ℕ) (side : Bool
     counted = raised-none (omega arith);
   }
 
-  module _ (y n : ℕ) (c : Tally) (a : List ℕ) (s : Sweeping tally d from to spare k w h side y c a) (fits : y + n ≤ h) where
+  module _ {y : ℕ} (n : ℕ) {c : Tally} {a : List ℕ} (s : Sweeping tally d from to spare k w h side y c a) (fits : y + n ≤ h) where
     size : y * w + w * n ≤ w * h
     size = let m : (y + n) * w ≤ h * w = mul-le-mul-right w fits in omega arith
 
@@ -79,7 +79,7 @@ module _ (tally : Tally) (d : List ℕ) (from to spare k w h : ℕ) (side : Bool
           room = room-left (ready .room) (s .counted) (omega arith);
         }
 
-    module _ (r : Tally) (b : List ℕ) (strip : RowsSwept c a (from + y * w) (to + y * w) spare k w n side r b) where
+    module _ {r : Tally} {b : List ℕ} (strip : RowsSwept c a (from + y * w) (to + y * w) spare k w n side r b) where
       -- outside the strip and the scratch nothing has changed
       still : (j : ℕ) → Off (to + y * w) (w * n) j → Off spare (3 * (w * h)) j → getD b j 0 ≡ getD a j 0
       still j p q = let z = size in strip .kept .same j p (off-within spare (3 * (w * n)) q (omega arith) (omega arith))
@@ -123,8 +123,8 @@ module _ (tally : Tally) (d : List ℕ) (from to spare k w h : ℕ) (side : Bool
             counted = raised-twice (s .counted) (strip .counted) (add-mul y n (lineWalks k w));
           }
 
-  pub sweeping-all : (y : ℕ) (c : Tally) (a : List ℕ) → Sweeping tally d from to spare k w h side y c a → h ≤ y → RowsSwept tally d from to spare k w h side c a
-  sweeping-all y c a s l =
+  pub sweeping-all : {y : ℕ} {c : Tally} {a : List ℕ} → Sweeping tally d from to spare k w h side y c a → h ≤ y → RowsSwept tally d from to spare k w h side c a
+  sweeping-all {y} s l =
       let e : y ≡ h = omega (arith, s .inside) in
       record {
         each = λ x i X I. s .each x i X (omega arith);
