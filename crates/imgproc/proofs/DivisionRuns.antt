@@ -71,7 +71,7 @@ module _ (src : List ℕ) (s : Geometry) (dst : List ℕ) (t : Geometry) (d : Ba
   pub flatten-ready : FlattenReady tally src s d ws
   flatten-ready =
       let area = area-small (ready .from) in
-      record { from = ready .from; kernel = ready .kernel; floor = ready .floor; fits = ready .fits; room = room-fresh _ fresh (omega arith) }
+      record { from = ready .from; kernel = ready .kernel; floor = ready .floor; fits = ready .fits; room = room-fresh fresh (omega arith) }
 
   module _ (raised : Tally) (ws′ : List ℕ) (flat : Flattened tally src s d ws raised ws′) where
     pub picture-divided : {r : Answer Bare} {dst′ : List ℕ} → Unpacks ws′ (s .width * s .height) dst t r dst′ → Divided src s dst t d ws raised dst′ ws′

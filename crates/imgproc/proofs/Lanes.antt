@@ -12,7 +12,7 @@ use Rattle.imgproc.specs.Fold.{bit}
 use Rattle.imgproc.specs.Reach.{walk}
 use Rattle.imgproc.specs.Walks.{cases, walk-more, walk-le}
 use Rattle.imgproc.specs.declared.tally.Tally.{Tally}
-use Rattle.imgproc.specs.Tallies.{Raised, HasRoom, raised-none, raised-twice, raised-as, room-left}
+use Rattle.imgproc.specs.Tallies.{Raised, HasRoom, raised-none, raised-twice, room-left}
 use Rattle.imgproc.specs.Sweeps.{lane, Apart, Off, Outside, Rowed, Passed}
 
 -- ---- places
@@ -111,12 +111,7 @@ pub record Downward (P : ℕ → ℕ → ℕ → Type 0) (test : ℕ → Bool) (
 module _ {P : ℕ → ℕ → ℕ → Type 0} {test : ℕ → Bool} {to w h : ℕ} {d : List ℕ} {tally : Tally} where
   pub down-none : Downward P test to w h 0 0 d d tally tally
   unfolding walk
-  down-none = record {
-    inside = omega arith;
-    here = omega arith;
-    lines = done-none P to w h d (λ i m. not-suc-le-zero m);
-    counted = raised-as _ (raised-none tally) (omega arith);
-  }
+  down-none = record { inside = omega arith; here = omega arith; lines = done-none P to w h d (λ i m. not-suc-le-zero m); counted = raised-none (omega arith) }
 
   pub down-more : {y at : ℕ} {c c′ : Tally} (g : ℕ → ℕ) {a a′ : List ℕ} → Downward P test to w h y at d a tally c → y < h → Rowed (to + at) w g a a′
       → ((x : ℕ) → x < w → P x y (g x)) → Raised c (bit (test y) * w) c′ → Downward P test to w h (y + 1) (at + w) d a′ tally c′
@@ -127,14 +122,14 @@ module _ {P : ℕ → ℕ → ℕ → Type 0} {test : ℕ → Bool} {to w h : �
         inside = omega arith;
         here = omega (arith, s .here);
         lines = done-more y g l (s .lines) r′ each (λ i m ne. omega arith);
-        counted = raised-twice _ (s .counted) e more;
+        counted = raised-twice (s .counted) e more;
       }
 
   -- the tally so far has room for a line more
   pub down-room : {y at : ℕ} {c : Tally} {a : List ℕ} → HasRoom tally (w * h) → Downward P test to w h y at d a tally c → y < h → HasRoom c w
   down-room {y} room s l =
       let b : walk test y * w ≤ y * w = mul-le-mul-right w (walk-le test y) in
-      room-left w room (s .counted) (omega (arith, line-order w y h l))
+      room-left room (s .counted) (omega (arith, line-order w y h l))
 
   -- the line at `at` is within the plane
   pub down-fits : {y at : ℕ} {c : Tally} {a : List ℕ} → Downward P test to w h y at d a tally c → y < h → at + w ≤ w * h
@@ -166,7 +161,7 @@ module _ {P : ℕ → ℕ → ℕ → Type 0} {test : ℕ → Bool} {to w h : �
     lines = done-none P to w h d (λ i m. omega arith);
     met = 0;
     ahead = omega arith;
-    counted = raised-as _ (raised-none tally) (omega arith);
+    counted = raised-none (omega arith);
   }
 
   pub up-more : {y at : ℕ} {c c′ : Tally} (g : ℕ → ℕ) {a a′ : List ℕ} → Upward P test to w h y at d a tally c → 0 < y → Rowed (to + (at - w)) w g a a′
@@ -180,14 +175,14 @@ module _ {P : ℕ → ℕ → ℕ → Type 0} {test : ℕ → Bool} {to w h : �
         lines = done-more (y - 1) g (omega (arith, s .inside)) (s .lines) r′ each (λ i m ne. omega arith);
         met = s .met + bit (test (y - 1));
         ahead = omega (arith, s .ahead, walk-above test y l);
-        counted = raised-twice _ (s .counted) e (add-mul (s .met) (bit (test (y - 1))) w);
+        counted = raised-twice (s .counted) e (add-mul (s .met) (bit (test (y - 1))) w);
       }
 
   pub up-room : {y at : ℕ} {c : Tally} {a : List ℕ} → HasRoom tally (w * h) → Upward P test to w h y at d a tally c → 0 < y → test (y - 1) ≡ true → HasRoom c w
   up-room {y} room s l t =
       let one : bit (test (y - 1)) ≡ 1 = rw t refl in
       let b : (s .met + 1) * w ≤ h * w = mul-le-mul-right w (omega (arith, s .ahead, walk-above test y l, walk-le test h)) in
-      room-left w room (s .counted) (omega arith)
+      room-left room (s .counted) (omega arith)
 
   -- the line at y - 1 is within the plane
   pub up-fits : {y at : ℕ} {c : Tally} {a : List ℕ} → Upward P test to w h y at d a tally c → 0 < y → (w ≤ at) × (at ≤ w * h)

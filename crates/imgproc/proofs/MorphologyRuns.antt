@@ -28,11 +28,11 @@ once-ready p = record {
     target-apart = record { sides = inl (omega arith) };
     planes = inr (record { sides = inl (omega arith) });
     kernel = p .kernel;
-    room = room-part _ (p .room) (omega arith);
+    room = room-part (p .room) (omega arith);
   };
   columns = p .kernel;
   wide = p .wide;
-  room = room-part _ (p .room) (omega arith);
+  room = room-part (p .room) (omega arith);
 }
 
 pub twice-ready : {t : Tally} {d : List ℕ} {k w h : ℕ} → OperateReady t d k w h → TwiceReady t d 0 (w * h) (2 * (w * h)) k w h

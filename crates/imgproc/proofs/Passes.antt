@@ -34,7 +34,7 @@ module _ {R : ℕ → ℕ → Type 0} {op : ℕ → ℕ → ℕ} (o : Order R op
   forward-copy {y} {at} {a = a} s l z r =
       down-more (λ (x : ℕ). getD a (from + at + x) 0) s l r
       (λ x m. rw (plane-kept from x y (from + at + x) apart (s .lines .rest) m l (omega (arith, s .here))) (forward-first o k pos (lane d from w x) y z))
-      (raised-as _ (raised-none _) (simp (eq-eqb _ _ z) (omega arith)))
+      (raised-none (simp (eq-eqb _ _ z) (omega arith)))
 
   pub forward-meet : {y at : ℕ} {c c′ : Tally} {a a′ : List ℕ} → ForwardDown y at a c → y < h → (y % k ≡ 0 → ⊥)
       → Rowed (to + at) w (λ (x : ℕ). op (getD a (to + (at - w) + x) 0) (getD a (from + at + x) 0)) a a′ → Raised c w c′ → ForwardDown (y + 1) (at + w) a′ c′
@@ -46,7 +46,7 @@ module _ {R : ℕ → ℕ → Type 0} {op : ℕ → ℕ → ℕ} (o : Order R op
       let here = plane-kept from x y (from + at + x) apart (s .lines .rest) m l (omega (arith, s .here)) in
       let above : getD a (to + (at - w) + x) 0 ≡ lane a to w x (y - 1) = ap (λ (n : ℕ). getD a n 0) (omega (arith, s .here)) in
       rw (above, here) (forward-next o k pos (lane d from w x) y nz (s .lines .each x (y - 1) m (omega arith))))
-      (raised-as _ e (simp (ne-eqb _ _ nz) (omega arith)))
+      (raised-as e (simp (ne-eqb _ _ nz) (omega arith)))
 
   -- ---- backward: the turn at y writes line y - 1
   abbrev pub BackwardUp : ℕ → ℕ → List ℕ → Tally → Type 0
@@ -60,7 +60,7 @@ module _ {R : ℕ → ℕ → Type 0} {op : ℕ → ℕ → ℕ} (o : Order R op
       (λ x m.
       rw (plane-kept from x (y - 1) (from + (at - w) + x) apart (s .lines .rest) m (omega (arith, s .inside)) (omega (arith, s .here)))
       (backward-first o k pos (lane d from w x) h (y - 1) (omega (arith, s .inside)) z))
-      (raised-as _ (raised-none _) (rw (backward-none k h (y - 1) z) (omega arith)))
+      (raised-none (rw (backward-none k h (y - 1) z) (omega arith)))
 
   pub backward-meet : {y at : ℕ} {c c′ : Tally} {a a′ : List ℕ} → BackwardUp y at a c → 0 < y → ((y - 1) % k ≡ k - 1 → ⊥) → (y - 1 ≡ h - 1 → ⊥)
       → Rowed (to + (at - w)) w (λ (x : ℕ). op (getD a (to + (at - w + w) + x) 0) (getD a (from + (at - w) + x) 0)) a a′
@@ -74,7 +74,7 @@ module _ {R : ℕ → ℕ → Type 0} {op : ℕ → ℕ → ℕ} (o : Order R op
       let next : getD a (to + (at - w + w) + x) 0 ≡ lane a to w x (y - 1 + 1) = ap (λ (n : ℕ). getD a n 0) (omega (arith, s .here)) in
       rw (next, here)
       (backward-next o k pos (lane d from w x) h (y - 1) (omega (arith, s .inside)) nk nh (s .lines .each x (y - 1 + 1) m (omega (arith, s .inside, nh)))))
-      (raised-as _ e (simp (ne-eqb _ _ nk, ne-eqb _ _ nh) (omega arith)))
+      (raised-as e (simp (ne-eqb _ _ nk, ne-eqb _ _ nh) (omega arith)))
 
 -- ---- joining
 module _ (op : ℕ → ℕ → ℕ) (k suffix prefix to w h : ℕ)
@@ -91,13 +91,13 @@ module _ (op : ℕ → ℕ → ℕ) (k suffix prefix to w h : ℕ)
       let back = plane-kept suffix x lo (suffix + lo * w + x) left (s .lines .rest) m (omega arith) (omega arith) in
       let forth = plane-kept prefix x hi (prefix + hi * w + x) right (s .lines .rest) m (omega arith) (omega arith) in
       ap₂ op back forth ∙ rw (p, q))
-      (raised-as _ e (omega arith))
+      (raised-as e (omega arith))
 
 -- ---- the three passes: at each sample of each lane the extreme of its reach. The scratch at `spare` holds the forward extremes, then the backward ones
-pub lines-swept : (side : Bool) (k from to spare w h : ℕ) (t a b r : Tally) (d e f g : List ℕ) → 0 < k → Apart from (w * h) spare (2 * (w * h))
+pub lines-swept : {side : Bool} {k from to spare w h : ℕ} {t a b r : Tally} {d e f g : List ℕ} → 0 < k → Apart from (w * h) spare (2 * (w * h))
     → ForwardPassed t d from spare k w h side a e → BackwardPassed a e from (spare + w * h) k w h side b f → JoinPassed b f (spare + w * h) spare to k w h side r g
     → LinesSwept t d from to spare k w h side r g
-lines-swept side k from to spare w h t a b r d e f g pos apart forth back joined = record {
+lines-swept {side} {k} {from} {to} {spare} {w} {h} {d = d} {f = f} {g = g} pos apart forth back joined = record {
   each = λ x y X Y.
       reached (order side) k pos (lane d from w x) h (lane f (spare + w * h) w x) (lane f spare w x)
       (λ j l.
@@ -109,7 +109,7 @@ lines-swept side k from to spare w h t a b r d e f g pos apart forth back joined
       (lane g to w x y)
       Y
       (joined .each x y X Y);
-  counted = raised-twice _ (raised-twice _ (forth .counted) (back .counted) refl) (joined .counted) (omega arith);
+  counted = raised-twice (raised-twice (forth .counted) (back .counted) refl) (joined .counted) (omega arith);
   kept = record {
     long = joined .rest .long ∙ back .rest .long ∙ forth .rest .long;
     same = λ j p q.
@@ -120,8 +120,8 @@ lines-swept side k from to spare w h t a b r d e f g pos apart forth back joined
 }
 
 -- after a pass there is room in the tally for what the plane's samples leave
-pub passed-room : {P : ℕ → ℕ → ℕ → Type 0} {test : ℕ → Bool} {t a : Tally} {d e : List ℕ} {to w h n : ℕ} (l : ℕ)
+pub passed-room : {P : ℕ → ℕ → ℕ → Type 0} {test : ℕ → Bool} {t a : Tally} {d e : List ℕ} {to w h n l : ℕ}
     → HasRoom t n → Passed P test t d to w h a e → w * h + l ≤ n → HasRoom a l
-passed-room {test = test} {w = w} {h = h} l room p e =
+passed-room {test = test} {w = w} {h = h} room p e =
     let b : walk test h * w ≤ h * w = mul-le-mul-right w (walk-le test h) in
-    room-left l room (p .counted) (omega arith)
+    room-left room (p .counted) (omega arith)

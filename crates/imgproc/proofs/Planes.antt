@@ -10,7 +10,7 @@ use lib.ListN.{length, getD}
 use Rattle.image.specs.Plane.{part}
 use Rattle.image.specs.PlaneLaws.{in-plane, length-part, getD-part}
 use Rattle.imgproc.specs.declared.tally.Tally.{Tally}
-use Rattle.imgproc.specs.Tallies.{Raised, HasRoom, raised-none, raised-twice, raised-as, room-part, room-left}
+use Rattle.imgproc.specs.Tallies.{Raised, HasRoom, raised-none, raised-twice, room-part, room-left}
 use Rattle.imgproc.specs.Extremes.{Extreme, Between, Inside}
 use Rattle.imgproc.specs.Reach.{reachBox, reachFrom, reachTo, lineWalks}
 use Rattle.imgproc.specs.Walks.{cases, lines-walks-le}
@@ -26,9 +26,9 @@ pub off-within : {at n j : ℕ} (a m : ℕ) → Off at n j → at ≤ a → a + 
 off-within a m p l h = record { side = ⊎-elim (λ s. inl (omega arith)) (λ s. inr (omega arith)) (p .side) }
 
 -- ---- a strip: turned, swept as lanes, turned back
-pub strip-swept : (side : Bool) (k from to spare w h : ℕ) (t r : Tally) (d e f g : List ℕ) → 0 < k
+pub strip-swept : {side : Bool} {k from to spare w h : ℕ} {t r : Tally} {d e f g : List ℕ} → 0 < k
     → Turned d from spare h w e → LinesSwept t e spare spare (spare + w * h) k h w side r f → Turned f spare to w h g → RowsSwept t d from to spare k w h side r g
-strip-swept side k from to spare w h t r d e f g pos there swept back = record {
+strip-swept {k = k} {spare = spare} {w = w} {h = h} pos there swept back = record {
   each = λ x y X Y. rw (back .each y x Y X) (seen (λ i s. there .each i y (omega (arith, reach-in k w x pos X)) Y) (swept .each y x Y X));
   counted = swept .counted;
   kept = record {
@@ -48,17 +48,17 @@ pub record Sweeping (tally : Tally) (d : List ℕ) (from to spare k w h : ℕ) (
   pub kept : Spared to (w * h) spare (3 * (w * h)) d d′
   pub counted : Raised tally (y * lineWalks k w) raised
 
-module _ (tally : Tally) (d : List ℕ) (from to spare k w h : ℕ) (side : Bool) (ready : SweepReady tally d from to spare k w h) where
+module _ {tally : Tally} {d : List ℕ} {from to spare k w h : ℕ} {side : Bool} (ready : SweepReady tally d from to spare k w h) where
   pub sweeping-none : Sweeping tally d from to spare k w h side 0 tally d
   sweeping-none = record {
     inside = omega arith;
     each = λ x i l m. absurd (omega arith);
     ahead = λ j l m. refl;
     kept = record { long = refl; same = λ j p q. refl };
-    counted = raised-as _ (raised-none tally) (omega arith);
+    counted = raised-none (omega arith);
   }
 
-  module _ (y n : ℕ) (c : Tally) (a : List ℕ) (s : Sweeping tally d from to spare k w h side y c a) (fits : y + n ≤ h) where
+  module _ {y : ℕ} (n : ℕ) {c : Tally} {a : List ℕ} (s : Sweeping tally d from to spare k w h side y c a) (fits : y + n ≤ h) where
     size : y * w + w * n ≤ w * h
     size = let m : (y + n) * w ≤ h * w = mul-le-mul-right w fits in omega arith
 
@@ -76,10 +76,10 @@ module _ (tally : Tally) (d : List ℕ) (from to spare k w h : ℕ) (side : Bool
           target-apart = apart-within _ _ _ _ (ready .target-apart) (omega arith) (omega arith) (omega arith) (omega arith);
           planes = ⊎-elim (λ e. inl (omega arith)) (λ p. inr (apart-within _ _ _ _ p (omega arith) (omega arith) (omega arith) (omega arith))) (ready .planes);
           kernel = ready .kernel;
-          room = room-left _ (ready .room) (s .counted) (omega arith);
+          room = room-left (ready .room) (s .counted) (omega arith);
         }
 
-    module _ (r : Tally) (b : List ℕ) (strip : RowsSwept c a (from + y * w) (to + y * w) spare k w n side r b) where
+    module _ {r : Tally} {b : List ℕ} (strip : RowsSwept c a (from + y * w) (to + y * w) spare k w n side r b) where
       -- outside the strip and the scratch nothing has changed
       still : (j : ℕ) → Off (to + y * w) (w * n) j → Off spare (3 * (w * h)) j → getD b j 0 ≡ getD a j 0
       still j p q = let z = size in strip .kept .same j p (off-within spare (3 * (w * n)) q (omega arith) (omega arith))
@@ -120,11 +120,11 @@ module _ (tally : Tally) (d : List ℕ) (from to spare k w h : ℕ) (side : Bool
               long = strip .kept .long ∙ s .kept .long;
               same = λ j p q. still j (off-within (to + y * w) (w * n) p (omega arith) (omega arith)) q ∙ s .kept .same j p q;
             };
-            counted = raised-twice _ (s .counted) (strip .counted) (add-mul y n (lineWalks k w));
+            counted = raised-twice (s .counted) (strip .counted) (add-mul y n (lineWalks k w));
           }
 
-  pub sweeping-all : (y : ℕ) (c : Tally) (a : List ℕ) → Sweeping tally d from to spare k w h side y c a → h ≤ y → RowsSwept tally d from to spare k w h side c a
-  sweeping-all y c a s l =
+  pub sweeping-all : {y : ℕ} {c : Tally} {a : List ℕ} → Sweeping tally d from to spare k w h side y c a → h ≤ y → RowsSwept tally d from to spare k w h side c a
+  sweeping-all {y} s l =
       let e : y ≡ h = omega (arith, s .inside) in
       record {
         each = λ x i X I. s .each x i X (omega arith);
@@ -149,15 +149,15 @@ sweep-again p s kernel room =
     }
 
 -- ---- a sweep of the rows, then of the columns
-module _ (side : Bool) (kx ky from to spare w h : ℕ) (t a : Tally) (d e : List ℕ) (ready : MorphReady t d from to spare kx ky w h)
+module _ {side : Bool} {kx ky from to spare w h : ℕ} {t a : Tally} {d e : List ℕ} (ready : MorphReady t d from to spare kx ky w h)
     (across : RowsSwept t d from to spare kx w h side a e) where
   -- what the second asks
   pub columns-ready : SweepReady a e to to spare ky w h
   columns-ready =
       let most = lines-walks-le kx w h in
-      sweep-again (ready .rows) (across .kept) (ready .columns) (room-left _ (ready .room) (across .counted) (omega arith))
+      sweep-again (ready .rows) (across .kept) (ready .columns) (room-left (ready .room) (across .counted) (omega arith))
 
-  module _ (r : Tally) (g : List ℕ) (down : ColumnsSwept a e to to spare ky w h side r g) where
+  module _ {r : Tally} {g : List ℕ} (down : ColumnsSwept a e to to spare ky w h side r g) where
     both : (x y : ℕ) → x < w → y < h → Extreme (Before side) (Inside (reachBox kx ky w h x y)) (λ p. lane d from w (p .0) (p .1)) (lane g to w x y)
     both x y X Y =
         let col = down .each x y X Y in
@@ -186,7 +186,7 @@ module _ (side : Bool) (kx ky from to spare w h : ℕ) (t a : Tally) (d e : List
               let Y′ = reach-in ky h y (ready .columns) Y in
               sym (getD-part from (w * h) d (p .source) (q .1 * w + q .0) (in-plane w h (q .0) (q .1) (omega arith) (omega arith))))
               (both x y X Y)));
-          counted = raised-twice _ (across .counted) (down .counted) refl;
+          counted = raised-twice (across .counted) (down .counted) refl;
           kept = record {
             long = down .kept .long ∙ across .kept .long;
             same = λ j u v. down .kept .same j u v ∙ across .kept .same j u v;
@@ -194,20 +194,20 @@ module _ (side : Bool) (kx ky from to spare w h : ℕ) (t a : Tally) (d e : List
         }
 
 -- ---- two of them, the second of what the first left
-module _ (one : Bool) (kx ky from to spare w h : ℕ) (t a : Tally) (d e : List ℕ) (ready : PairReady t d from to spare kx ky w h)
+module _ {one : Bool} {kx ky from to spare w h : ℕ} {t a : Tally} {d e : List ℕ} (ready : PairReady t d from to spare kx ky w h)
     (once : Morphed t d from to spare kx ky w h one a e) where
   pub again-ready : MorphReady a e to to spare kx ky w h
   again-ready =
       let across = lines-walks-le kx w h in
       let down = lines-walks-le ky h w in
       let p = ready .once in
-      let room = room-left (6 * (w * h)) (ready .room) (once .counted) (omega arith) in
-      record { rows = sweep-again (p .rows) (once .kept) (p .rows .kernel) (room-part _ room (omega arith)); columns = p .columns; wide = p .wide; room = room }
+      let room = room-left {l = 6 * (w * h)} (ready .room) (once .counted) (omega arith) in
+      record { rows = sweep-again (p .rows) (once .kept) (p .rows .kernel) (room-part room (omega arith)); columns = p .columns; wide = p .wide; room = room }
 
-  pub pair-morphed : (two : Bool) (r : Tally) (g : List ℕ) → Morphed a e to to spare kx ky w h two r g → PairMorphed t d from to spare kx ky w h one two r g
-  pair-morphed two r g again = record {
+  pub pair-morphed : {two : Bool} {r : Tally} {g : List ℕ} → Morphed a e to to spare kx ky w h two r g → PairMorphed t d from to spare kx ky w h one two r g
+  pair-morphed {two} again = record {
     leaves = again .leaves ∙ ap (sweptRect (first two) kx ky w h) (once .leaves);
-    counted = raised-twice _ (once .counted) (again .counted) (omega arith);
+    counted = raised-twice (once .counted) (again .counted) (omega arith);
     kept = record {
       long = again .kept .long ∙ once .kept .long;
       same = λ j u v. again .kept .same j u v ∙ once .kept .same j u v;
@@ -216,7 +216,7 @@ module _ (one : Bool) (kx ky from to spare w h : ℕ) (t a : Tally) (d e : List 
 
 -- ---- an opening or a closing: two of them with the kernel k
 pub pair-ready : {t : Tally} {d : List ℕ} {from to spare k w h : ℕ} → TwiceReady t d from to spare k w h → PairReady t d from to spare k k w h
-pair-ready p = record { once = record { rows = p .rows; columns = p .rows .kernel; wide = p .wide; room = room-part _ (p .room) (omega arith) }; room = p .room }
+pair-ready p = record { once = record { rows = p .rows; columns = p .rows .kernel; wide = p .wide; room = room-part (p .room) (omega arith) }; room = p .room }
 
 pub twice-morphed : (one two : Bool) {t r : Tally} {d g : List ℕ} {from to spare k w h : ℕ} → PairMorphed t d from to spare k k w h one two r g
     → TwiceMorphed (λ k w h p. swept (first two) k w h (swept (first one) k w h p)) t d from to spare k w h r g

@@ -51,7 +51,7 @@ module _ (src : List ℕ) (g : Geometry) (dst : List ℕ) (t : Geometry) (s : Re
         floor = ready .floor;
         kernel = ready .kernel;
         fits = omega (arith, ready .bytes-fit);
-        room = room-fresh _ fresh (omega arith);
+        room = room-fresh fresh (omega arith);
       }
 
   module _ (raised : Tally) (bytes₁ : List ℕ) (o : Opened tally src g s bytes raised bytes₁) where
@@ -101,7 +101,7 @@ module _ (src : List ℕ) (g : Geometry) (dst : List ℕ) (t : Geometry) (s : Re
       comparisons-are =
           let closing = sweep-walks (s .division .«structuring_element») (ready .element) (g .width) (g .height) in
           let opening = sweep-walks (s .«opening_kernel») (ready .kernel) (g .width) (g .height) in
-          stands-as _ (raised-fresh fresh (o .counted)) (omega arith)
+          stands-as (raised-fresh fresh (o .counted)) (omega arith)
 
       pub read-done :
           {j : Judged} {dst′ words₃ : List ℕ}

@@ -31,7 +31,7 @@ use Rattle.imgproc.proofs.surface.Tables.{skips-are}
 -- ---- flattened and opened
 module _ (tally : Tally) (src : List ℕ) (g : Geometry) (s : ReadingConfig) (ws : List ℕ) (ready : OpenReady tally src g s ws) where
   pub flat-ready : FlattenReady tally src g (s .division) ws
-  flat-ready = record { from = ready .from; kernel = ready .element; floor = ready .floor; fits = ready .fits; room = room-part _ (ready .room) (omega arith) }
+  flat-ready = record { from = ready .from; kernel = ready .element; floor = ready .floor; fits = ready .fits; room = room-part (ready .room) (omega arith) }
 
   module _ (raised : Tally) (first : List ℕ) (flat : Flattened tally src g (s .division) ws raised first) where
     pub open-ready : TwiceReady raised first (g .width * g .height) 0 (2 * (g .width * g .height)) (s .«opening_kernel») (g .width) (g .height)
@@ -47,16 +47,16 @@ module _ (tally : Tally) (src : List ℕ) (g : Geometry) (s : ReadingConfig) (ws
             target-apart = record { sides = inl (omega arith) };
             planes = inr (record { sides = inr (omega arith) });
             kernel = ready .kernel;
-            room = room-left _ (ready .room) (flat .counted) (omega arith);
+            room = room-left (ready .room) (flat .counted) (omega arith);
           };
           wide = ready .from .wide;
-          room = room-left _ (ready .room) (flat .counted) (omega arith);
+          room = room-left (ready .room) (flat .counted) (omega arith);
         }
 
     pub opened-is : {r : Tally} {second : List ℕ} → TwiceMorphed opened raised first (g .width * g .height) 0 (2 * (g .width * g .height)) (s .«opening_kernel») (g .width) (g .height) r second → Opened tally src g s ws r second
     opened-is o = record {
       leaves = o .leaves ∙ ap (opened (s .«opening_kernel») (g .width) (g .height)) (flat .leaves);
-      counted = raised-twice _ (flat .counted) (o .counted) refl;
+      counted = raised-twice (flat .counted) (o .counted) refl;
       long = o .kept .long ∙ flat .long;
     }
 

@@ -19,35 +19,36 @@ pub record Stands (t : Tally) (n : ℕ) : Type 0 where
 
 -- ---- raised
 
-pub raised-none : (t : Tally) → Raised t 0 t
-raised-none t = record { more = omega arith }
+-- nothing was counted
+pub raised-none : {t : Tally} {n : ℕ} → n ≡ 0 → Raised t n t
+raised-none e = record { more = omega arith }
 
 -- raised twice: what was counted adds up
-pub raised-twice : {t a b : Tally} {m n : ℕ} (l : ℕ) → Raised t m a → Raised a n b → l ≡ m + n → Raised t l b
-raised-twice l p q e = record { more = omega (arith, p .more, q .more) }
+pub raised-twice : {t a b : Tally} {m n l : ℕ} → Raised t m a → Raised a n b → l ≡ m + n → Raised t l b
+raised-twice p q e = record { more = omega (arith, p .more, q .more) }
 
 -- the number of comparisons told otherwise
-pub raised-as : {t a : Tally} {m : ℕ} (n : ℕ) → Raised t m a → m ≡ n → Raised t n a
-raised-as n p e = record { more = omega (arith, p .more) }
+pub raised-as : {t a : Tally} {m n : ℕ} → Raised t m a → m ≡ n → Raised t n a
+raised-as p e = record { more = omega (arith, p .more) }
 
 -- ---- room
 
 -- room for a part
-pub room-part : {t : Tally} {n : ℕ} (m : ℕ) → HasRoom t n → m ≤ n → HasRoom t m
-room-part m r l = record { fits = omega (arith, r .fits) }
+pub room-part : {t : Tally} {n m : ℕ} → HasRoom t n → m ≤ n → HasRoom t m
+room-part r l = record { fits = omega (arith, r .fits) }
 
 -- what is left after raising
-pub room-left : {t a : Tally} {m n : ℕ} (l : ℕ) → HasRoom t n → Raised t m a → m + l ≤ n → HasRoom a l
-room-left l r p e = record { fits = omega (arith, r .fits, p .more) }
+pub room-left : {t a : Tally} {m n l : ℕ} → HasRoom t n → Raised t m a → m + l ≤ n → HasRoom a l
+room-left r p e = record { fits = omega (arith, r .fits, p .more) }
 
 -- ---- where it stands
 
-pub stands-as : {t : Tally} {m : ℕ} (n : ℕ) → Stands t m → m ≡ n → Stands t n
-stands-as n s e = record { at = omega (arith, s .at) }
+pub stands-as : {t : Tally} {m n : ℕ} → Stands t m → m ≡ n → Stands t n
+stands-as s e = record { at = omega (arith, s .at) }
 
 -- a tally that has just been started: its room, and where it stands once raised
-pub room-fresh : {t : Tally} (n : ℕ) → Stands t 0 → n < 2 ^ 64 → HasRoom t n
-room-fresh n s l = record { fits = omega (arith, s .at) }
+pub room-fresh : {t : Tally} {n : ℕ} → Stands t 0 → n < 2 ^ 64 → HasRoom t n
+room-fresh s l = record { fits = omega (arith, s .at) }
 
 pub raised-fresh : {t a : Tally} {n : ℕ} → Stands t 0 → Raised t n a → Stands a n
 raised-fresh s p = record { at = omega (arith, s .at, p .more) }

@@ -17,7 +17,7 @@ module _ (h₀ : Tally) (d : List ℕ) (x : Own) (ok : Asked h₀ d x) (room : R
 
   module _ (r1 : Tally) (d1 : List ℕ) (e1 : RowsSay h₀ d (num-1 x) r1 d1) (long1 : length d1 ≡ length d) where
     pub asks-2 : Asks r1 d1 (num-2 x)
-    asks-2 = columns-ready _ _ _ _ _ _ _ _ h₀ r1 d d1 ok e1
+    asks-2 = columns-ready ok e1
 
     pub at-exit : (r2 : Tally) (d2 : List ℕ) → ColumnsSay r1 d1 (num-2 x) r2 d2 → length d2 ≡ length d1 → Done h₀ d x r2 d2
-    at-exit r2 d2 e2 long2 = morphed _ _ _ _ _ _ _ _ h₀ r1 d d1 ok e1 r2 d2 e2
+    at-exit r2 d2 e2 long2 = morphed ok e1 e2

@@ -1,27 +1,15 @@
 -- The plain facts that the walk of `morph_rect_twice` needs, by hand: each sweep leaves what the next one asks, and the last what the contract says.
 -- Assumes nothing.
 use mathlib.Core.Path.{_≡_}
-use mathlib.Core.Bool.{Bool}
 use Prim.Native.Nat.{ℕ}
 use mathlib.Core.List.{List}
 use lib.ListN.{length}
 use denote.Builtin.{u8}
 use denote.Slice.{Room}
 use Rattle.imgproc.specs.declared.tally.Tally.{Tally}
-use Rattle.imgproc.specs.Sweeps.{RowsSwept, ColumnsSwept, Morphed, MorphReady, PairReady}
 use Rattle.imgproc.proofs.Planes.{columns-ready, morphed, again-ready, pair-morphed}
 use Rattle.imgproc.proofs.rect.Says.{Asks, RowsSay, ColumnsSay}
 use Rattle.imgproc.proofs.rect.TwiceNumbers.{Own, num-1, num-2, num-3, num-4, Asked, Done}
-
--- the first two sweeps are the first half, after which the second may come
-module _ (from to spare across down width height : ℕ) (first : Bool) (h₀ r1 r2 : Tally) (d d1 d2 : List ℕ)
-    (ok : PairReady h₀ d from to spare across down width height) (e1 : RowsSwept h₀ d from to spare across width height first r1 d1)
-    (e2 : ColumnsSwept r1 d1 to to spare down width height first r2 d2) where
-  half-done : Morphed h₀ d from to spare across down width height first r2 d2
-  half-done = morphed _ _ _ _ _ _ _ _ h₀ r1 d d1 (ok .once) e1 r2 d2 e2
-
-  half-ready : MorphReady r2 d2 to to spare across down width height
-  half-ready = again-ready _ _ _ _ _ _ _ _ h₀ r2 d d2 ok half-done
 
 module _ (h₀ : Tally) (d : List ℕ) (x : Own) (ok : Asked h₀ d x) (room : Room u8 (length d)) where
   pub asks-1 : Asks h₀ d (num-1 x)
@@ -29,17 +17,17 @@ module _ (h₀ : Tally) (d : List ℕ) (x : Own) (ok : Asked h₀ d x) (room : R
 
   module _ (r1 : Tally) (d1 : List ℕ) (e1 : RowsSay h₀ d (num-1 x) r1 d1) (long1 : length d1 ≡ length d) where
     pub asks-2 : Asks r1 d1 (num-2 x)
-    asks-2 = columns-ready _ _ _ _ _ _ _ _ h₀ r1 d d1 (ok .once) e1
+    asks-2 = columns-ready (ok .once) e1
 
     module _ (r2 : Tally) (d2 : List ℕ) (e2 : ColumnsSay r1 d1 (num-2 x) r2 d2) (long2 : length d2 ≡ length d1) where
       pub asks-3 : Asks r2 d2 (num-3 x)
-      asks-3 = half-ready _ _ _ _ _ _ _ _ h₀ r1 r2 d d1 d2 ok e1 e2 .rows
+      asks-3 = again-ready ok (morphed (ok .once) e1 e2) .rows
 
       module _ (r3 : Tally) (d3 : List ℕ) (e3 : RowsSay r2 d2 (num-3 x) r3 d3) (long3 : length d3 ≡ length d2) where
         pub asks-4 : Asks r3 d3 (num-4 x)
-        asks-4 = columns-ready _ _ _ _ _ _ _ _ r2 r3 d2 d3 (half-ready _ _ _ _ _ _ _ _ h₀ r1 r2 d d1 d2 ok e1 e2) e3
+        asks-4 = columns-ready (again-ready ok (morphed (ok .once) e1 e2)) e3
 
         pub at-exit : (r4 : Tally) (d4 : List ℕ) → ColumnsSay r3 d3 (num-4 x) r4 d4 → length d4 ≡ length d3 → Done h₀ d x r4 d4
         at-exit r4 d4 e4 long4 =
-            pair-morphed _ _ _ _ _ _ _ _ h₀ r2 d d2 ok (half-done _ _ _ _ _ _ _ _ h₀ r1 r2 d d1 d2 ok e1 e2) _ r4 d4
-            (morphed _ _ _ _ _ _ _ _ r2 r3 d2 d3 (half-ready _ _ _ _ _ _ _ _ h₀ r1 r2 d d1 d2 ok e1 e2) e3 r4 d4 e4)
+            let half = morphed (ok .once) e1 e2 in
+            pair-morphed ok half (morphed (again-ready ok half) e3 e4)

@@ -16,7 +16,7 @@ running-extremum-1d-requires c κs =
       source-apart = apart-within _ _ _ _ (pre .source-apart) (omega arith) (omega arith) (omega arith) (omega arith);
       target-apart = apart-within _ _ _ _ (pre .target-apart) (omega arith) (omega arith) (omega arith) (omega arith);
       kernel = omega arith;
-      room = room-part _ (pre .room) (omega arith);
+      room = room-part (pre .room) (omega arith);
     }
 
 same-length : tie.Need-same-length

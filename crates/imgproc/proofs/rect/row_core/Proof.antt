@@ -14,7 +14,7 @@ abbrev μ-loop : tie.MeasureT-loop
 μ-loop ws₀ from to spare kernel width height side t₀ y₀ ws t y = height - y
 
 loop-holds : tie.Need-loop-holds Inv-loop μ-loop
-loop-holds c = let a = c .before .args in sweeping-none (a .tally) (a .ws .now) _ _ _ _ _ _ _ (c .before .pre)
+loop-holds c = sweeping-none (c .before .pre)
 
 sub-strip-of : tie.Need-sub-strip-of Inv-loop μ-loop
 sub-strip-of c = omega arith
@@ -28,10 +28,7 @@ ready : (c : tie.After-strip-of Inv-loop μ-loop)
     let lp = c .before .before .loop in
     SweepReady (lp .t) (lp .ws) (a .from + lp .y * a .width) (a .to + lp .y * a .width) (a .spare) (a .kernel) (a .width) (c .strip-of .result)
 ready c =
-    let start = c .before .before .before .before in
-    let a = start .args in
-    let lp = c .before .before .loop in
-    sweeping-ready (a .tally) (a .ws .now) _ _ _ _ _ _ (a .side) (start .pre) _ _ (lp .t) (lp .ws) (lp .inv) (omega arith)
+    sweeping-ready (c .before .before .before .before .pre) _ (c .before .before .loop .inv) (omega arith)
 
 mul-at : tie.Need-mul-at Inv-loop μ-loop
 mul-at c = omega (arith, ready c .source)
@@ -59,19 +56,13 @@ loop-again : tie.Need-loop-again Inv-loop μ-loop
 loop-again c =
     let called = c .before .before in
     let taken = called .before .before in
-    let lp = taken .before .before .loop in
-    let start = taken .before .before .before .before in
-    let a = start .args in
-    sweeping-more (a .tally) (a .ws .now) _ _ _ _ _ _ _ (start .pre) _ _ (lp .t) (lp .ws) (lp .inv) (omega arith) (called .sweep-strip .result) (called .sweep-strip .last .1 .0) (called .sweep-strip .ensures)
+    sweeping-more (taken .before .before .before .before .pre) _ (taken .before .before .loop .inv) (omega arith) (called .sweep-strip .ensures)
 
 same-length : tie.Need-same-length Inv-loop μ-loop
 same-length c = c .before .loop .inv .kept .long
 
 returns : tie.Need-returns Inv-loop μ-loop
-returns c =
-    let start = c .before .before .before in
-    let a = start .args in
-    sweeping-all (a .tally) (a .ws .now) _ _ _ _ _ _ _ (start .pre) _ (c .before .loop .t) (c .before .loop .ws) (c .before .loop .inv) (c .loop-test .left)
+returns c = sweeping-all (c .before .before .before .pre) (c .before .loop .inv) (c .loop-test .left)
 
 pub row-core-spec : {M : Type 1} → statement M
 row-core-spec =

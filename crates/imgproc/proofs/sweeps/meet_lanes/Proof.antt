@@ -21,7 +21,7 @@ abbrev μ-loop : tie.MeasureT-loop
 μ-loop ws₀ a b to lanes side t₀ x₀ ws t x = lanes - x
 
 loop-holds : tie.Need-loop-holds Inv-loop μ-loop
-loop-holds c = (omega arith, row-none _ _ _, raised-none _)
+loop-holds c = (omega arith, row-none _ _ _, raised-none refl)
 
 add-extreme : tie.Need-add-extreme Inv-loop μ-loop
 add-extreme c = search needs
@@ -38,7 +38,7 @@ slice-read-extreme-2 c = search needs
 extreme-requires : tie.Need-extreme-requires Inv-loop μ-loop
 extreme-requires c κs =
     let at-loop = c .before .before .before in
-    room-left 1 (at-loop .before .before .pre .room) (at-loop .loop .inv .2) (omega arith)
+    room-left (at-loop .before .before .pre .room) (at-loop .loop .inv .2) (omega arith)
 
 counted-requires : tie.Need-counted-requires Inv-loop μ-loop
 counted-requires c κs = search needs
@@ -66,10 +66,10 @@ loop-again c =
     let start = at-loop .before .before in
     let a = row-apart _ _ _ (lp .x) (start .args .a + lp .x) (lp .ws) (lp .inv .1) (start .pre .left-apart) (lp .inv .0) (omega arith) (omega arith) in
     let b = row-apart _ _ _ (lp .x) (start .args .b + lp .x) (lp .ws) (lp .inv .1) (start .pre .right-apart) (lp .inv .0) (omega arith) (omega arith) in
-    let one-more = raised-twice _ (lp .inv .2) (called .extreme .ensures .counted) refl in (
+    let one-more = raised-twice (lp .inv .2) (called .extreme .ensures .counted) refl in (
       omega arith,
       row-more _ _ _ (lp .x) _ (lp .ws) (lp .inv .1) (omega arith) (c .chosen .ensures ∙ rw (a, b) at (called .extreme .ensures .chosen)),
-      raised-twice _ one-more (c .before .counted .ensures) (omega arith),
+      raised-twice one-more (c .before .counted .ensures) (omega arith),
     )
 
 same-length : tie.Need-same-length Inv-loop μ-loop
@@ -78,7 +78,7 @@ same-length c = c .before .loop .inv .1 .rest .long
 returns : tie.Need-returns Inv-loop μ-loop
 returns c =
     let inv = c .before .loop .inv in
-    record { row = row-all (inv .1) (inv .0) (c .loop-test .left); counted = raised-as _ (inv .2) (omega arith) }
+    record { row = row-all (inv .1) (inv .0) (c .loop-test .left); counted = raised-as (inv .2) (omega arith) }
 
 pub meet-lanes-spec : {M : Type 1} → statement M
 meet-lanes-spec =

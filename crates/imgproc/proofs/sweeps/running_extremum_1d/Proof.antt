@@ -21,7 +21,7 @@ forward-pass-requires c κs =
       target = omega arith;
       apart = apart-within _ _ _ _ (pre .source-apart) (omega arith) (omega arith) (omega arith) (omega arith);
       kernel = pre .kernel;
-      room = room-part _ (pre .room) (omega arith);
+      room = room-part (pre .room) (omega arith);
     }
 
 backward-pass-requires : tie.Need-backward-pass-requires
@@ -35,7 +35,7 @@ backward-pass-requires c κs =
       target = omega arith;
       apart = apart-within _ _ _ _ (pre .source-apart) (omega arith) (omega arith) (omega arith) (omega arith);
       kernel = pre .kernel;
-      room = passed-room _ (pre .room) said (omega arith);
+      room = passed-room (pre .room) said (omega arith);
     }
 
 join-pass-requires : tie.Need-join-pass-requires
@@ -56,7 +56,7 @@ join-pass-requires c κs =
       left-apart = apart-within _ _ _ _ (apart-swap (pre .target-apart)) (omega arith) (omega arith) (omega arith) (omega arith);
       right-apart = apart-within _ _ _ _ (apart-swap (pre .target-apart)) (omega arith) (omega arith) (omega arith) (omega arith);
       kernel = pre .kernel;
-      room = passed-room _ (passed-room (2 * (a .width * a .height)) (pre .room) first (omega arith)) second (omega arith);
+      room = passed-room (passed-room {l = 2 * (a .width * a .height)} (pre .room) first (omega arith)) second (omega arith);
     }
 
 same-length : tie.Need-same-length
@@ -72,17 +72,7 @@ returns c =
     let back = joined .before .before .before .before in
     let forth = back .before .before .before .before in
     let start = forth .before .before .before in
-    let a = start .args in
-    let p = start .pre in
-    let f = forth .forward-pass in
-    let b = back .backward-pass in
-    let j = joined .join-pass in
-    lines-swept (a .side) (a .kernel) (a .from) (a .to) (a .spare) (a .width) (a .height) (a .tally) (f .result) (b .result) (j .result) (a .ws .now) (f .last .1 .0) (b .last .1 .0) (j .last .1 .0)
-    (p .kernel)
-    (p .source-apart)
-    (f .ensures)
-    (b .ensures)
-    (j .ensures)
+    lines-swept (start .pre .kernel) (start .pre .source-apart) (forth .forward-pass .ensures) (back .backward-pass .ensures) (joined .join-pass .ensures)
 
 pub running-extremum-1d-spec : {M : Type 1} → statement M
 running-extremum-1d-spec =

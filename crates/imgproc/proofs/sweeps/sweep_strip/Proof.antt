@@ -34,7 +34,7 @@ running-extremum-1d-requires c κs =
       source-apart = record { sides = inl (omega arith) };
       target-apart = record { sides = inl (omega arith) };
       kernel = pre .kernel;
-      room = room-part _ (pre .room) (omega arith);
+      room = room-part (pre .room) (omega arith);
     }
 
 turn-requires-2 : tie.Need-turn-requires-2
@@ -63,13 +63,7 @@ returns c =
     let swept = last .before .before .before .before in
     let first = swept .before .before .before .before in
     let start = first .before .before .before in
-    let a = start .args in
-    let s = swept .running-extremum-1d in
-    strip-swept (a .side) (a .kernel) (a .from) (a .to) (a .spare) (a .width) (a .height) (a .tally) (s .result) (a .ws .now) (first .turn .last .0) (s .last .1 .0) (last .turn2 .last .0)
-    (start .pre .kernel)
-    (first .turn .ensures)
-    (s .ensures)
-    (last .turn2 .ensures)
+    strip-swept (start .pre .kernel) (first .turn .ensures) (swept .running-extremum-1d .ensures) (last .turn2 .ensures)
 
 pub sweep-strip-spec : {M : Type 1} → statement M
 sweep-strip-spec =
