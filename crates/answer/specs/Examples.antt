@@ -1,6 +1,7 @@
 -- Worked lines of the program, as one table that antt evaluates. Assumes nothing.
 use mathlib.Core.Path.{_≡_, refl}
 use mathlib.Core.List.{List, [], _∷_}
+use Rattle.image.specs.Plane.{plane}
 use Rattle.imgproc.specs.Reading.{readingOf}
 use Rattle.pgm.specs.Decimal.{decimal}
 use Rattle.pgm.specs.Examples.{Case, _gives_, wrong}
@@ -19,5 +20,5 @@ cases =
     []
 
 pub cases-hold : wrong 1 cases ≡ []
-unfolding cases readingOf decimal programLine parsedOf sought
+unfolding cases readingOf decimal programLine parsedOf sought plane
 cases-hold = refl
