@@ -128,26 +128,25 @@ pub record Proper (n : TileNumbers) : Type 0 where
   pub small : Small n
   pub ordered : n .minimum ≤ n .maximum
 
--- the entries 0..to of a tile row that starts at `row` lie in the workspace and are small
+-- the numbers of the tiles from..to of the tile rows first..last, joined
+abbrev pub joinedRows : ℕ → ℕ → List ℕ → ℕ → ℕ → ℕ → ℕ → TileNumbers
+joinedRows at tx ws from to first last = joinOver (λ b. joinOver (λ a. tileEntry at tx ws a b) from to) first last
+
+-- the entries 0..to of a tile row that starts at `row` lie in the workspace, and entries a..b of them, joined, are small
 pub record SmallRow (row to : ℕ) (ws : List ℕ) : Type 0 where
   pub room : row + 5 * to + 5 ≤ length ws
-  pub each : (i : ℕ) → i ≤ to → Small (entry ws (row + 5 * i))
+  pub each : (a b : ℕ) → a ≤ b → b ≤ to → Small (joinOver (λ i. entry ws (row + 5 * i)) a b)
 
--- and so all entries of a grid of tx by ty tiles
+-- and so for all entries of a grid of tx by ty tiles: tiles a..b of the tile rows c..d, joined
 pub record SmallGrid (at tx ty : ℕ) (ws : List ℕ) : Type 0 where
   pub room : at + 5 * (tx * ty) ≤ length ws
-  pub each : (i j : ℕ) → i < tx → j < ty → Small (tileEntry at tx ws i j)
-  pub across : tx ≤ sideLimit
+  pub each : (a b c d : ℕ) → a ≤ b → b < tx → c ≤ d → d < ty → Small (joinedRows at tx ws a b c d)
   pub down : ty ≤ sideLimit
 
 -- the numbers of some picture
 pub record Filled (g : TileThresholdConfig) (w h at : ℕ) (ws : List ℕ) : Type 0 where
   pub picture : ℕ → ℕ → ℕ
   pub gathered : Gathered picture g w h at ws
-
--- the numbers of the tiles from..to of the tile rows first..last, joined
-abbrev pub joinedRows : ℕ → ℕ → List ℕ → ℕ → ℕ → ℕ → ℕ → TileNumbers
-joinedRows at tx ws from to first last = joinOver (λ b. joinOver (λ a. tileEntry at tx ws a b) from to) first last
 
 -- of all tiles within the radius r of tile (i, j), in a grid of tx by ty tiles
 abbrev pub joinedAround : ℕ → ℕ → ℕ → ℕ → List ℕ → ℕ → ℕ → TileNumbers

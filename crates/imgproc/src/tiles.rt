@@ -205,7 +205,7 @@ fn load(workspace: &[u64], at: usize) -> TileNumbers
 
 // The numbers of the tiles from..=to of a tile row, whose first tile stands at `row`, joined.
 fn join_row(workspace: &[u64], row: usize, from: usize, to: usize) -> TileNumbers
-    requires { ⌜ (from ≤ to) × (to < sideLimit) × SmallRow row to (now workspace) ⌝ }
+    requires { ⌜ (from ≤ to) × SmallRow row to (now workspace) ⌝ }
     ensures { λ r. ⌜ r ≡ joinOver (λ i. entry (now (workspace .entry)) (row + 5 * i)) from to ⌝ }
 {
     let mut numbers = load(workspace, row + 5 * from);

@@ -11,7 +11,7 @@ use Rattle.imgproc.specs.Extremes.{Some, lowest, highest, fold-box-extre
 use Rattle.imgproc.specs.Reach.{low, high, ceiling}
 use Rattle.imgproc.specs.Grid.{tilesX, tilesY, tileFrom, tileTo, around}
 use Rattle.imgproc.specs.GridLaws.{tile-starts, ceiling-small, around-some}
-use Rattle.imgproc.specs.Tiles.{Sized, numbersIn, tile, joined, joinFrom, joinOver, tileEntry, Gathered, Small, SmallGrid, Proper, joinedAround}
+use Rattle.imgproc.specs.Tiles.{Sized, numbersIn, joined, joinFrom, joinOver, tileEntry, Gathered, Small, SmallGrid, Proper, joinedAround}
 use Rattle.imgproc.proofs.tiles.Numbers.{below, beside, small}
 
 -- ---- along an axis of n samples with tiles of t
@@ -108,11 +108,14 @@ module _ (f : ℕ → ℕ → ℕ) (g : TileThresholdConfig) (w h at : ℕ) (ws 
   pub small-grid : SmallGrid at (tilesX g w) (tilesY g h) ws
   small-grid = record {
     room = G .room;
-    each = λ i j I J. subst Small (sym (G .each i j I J))
-        (small f (G .bytes) (tile g w h i j)
-        (record { across = tile-some w (g .«tile_width») (z .tile-width) i I; down = tile-some h (g .«tile_height») (z .tile-height) j J })
+    each = λ a b c d A B C D.
+        subst Small (sym (rows-are a b c d A B C D))
+        (small f (G .bytes) (tilesBox a b c d)
+        (record {
+          across = tiles-some w (g .«tile_width») (z .tile-width) a b A B;
+          down = tiles-some h (g .«tile_height») (z .tile-height) c d C D;
+        })
         (omega (arith, z .small-width))
         (omega (arith, z .small-height)));
-    across = omega (arith, ceiling-small w (g .«tile_width») (z .tile-width), z .small-width);
     down = omega (arith, ceiling-small h (g .«tile_height») (z .tile-height), z .small-height);
   }

@@ -37,8 +37,7 @@ join-rows-requires c κs =
       omega arith,
       record {
         room = omega (arith, s .pre .0 .room, mul-le-mul-left (a .tiles-x) end);
-        each = λ i j x y. s .pre .0 .each i j x (omega arith);
-        across = s .pre .0 .across;
+        each = λ x y u v p q r w. s .pre .0 .each x y u v p q r (omega arith);
         down = omega (arith, s .pre .0 .down);
       },
     )

@@ -1,11 +1,11 @@
 -- `join_row` meets its contract. The invariant: the numbers are those of the entries passed, joined. Assumes nothing.
-use Prim.Native.Nat.{ℕ, suc, _+_, _-_, _*_, _≤_, _<_}
+use Prim.Native.Nat.{ℕ, _+_, _-_, _*_, _≤_, _<_}
 use mathlib.Core.Path.{_≡_, sym, ap, ap₂, _∙_, subst}
+use native.Mathlib.Nat.{le-refl}
 use native.Mathlib.Omega.{arith}
 use Rattle.imgproc.specs.declared.tiles.TileNumbers.{TileNumbers}
-use Rattle.imgproc.specs.Tiles.{entry, joined, joinOver}
-use Rattle.image.specs.Layout.{sideLimit}
-use Rattle.imgproc.proofs.tiles.Joins.{join-one, join-next, Under, most, small-under, join-under}
+use Rattle.imgproc.specs.Tiles.{entry, joined, joinOver, Small}
+use Rattle.imgproc.proofs.tiles.Joins.{join-one, join-next}
 use borrow.Author.Needs.{needs}
 use Rattle.imgproc.proofs.tiles.join_row.Statement.{statement}
 use Rattle.imgproc.proofs.tiles.join_row.Tie as tie
@@ -20,6 +20,11 @@ abbrev μ-loop : tie.MeasureT-loop
 entries : tie.Start Inv-loop μ-loop → ℕ → TileNumbers
 entries s k = entry (s .args .workspace .now) (s .args .row + 5 * k)
 
+-- each entry is small
+one : (s : tie.Start Inv-loop μ-loop) (i : ℕ) → i ≤ s .args .to → Small (entries s i)
+unfolding entries
+one s i t = subst Small (sym (join-one (entries s) i)) (s .pre .1 .each i i (le-refl i) t)
+
 mul-load : tie.Need-mul-load Inv-loop μ-loop
 mul-load c = search needs
 
@@ -27,8 +32,9 @@ add-load : tie.Need-add-load Inv-loop μ-loop
 add-load c = search needs
 
 load-requires : tie.Need-load-requires Inv-loop μ-loop
+unfolding entries
 load-requires c κs =
-    let s = c .before .pre .2 .each (c .before .args .from) (c .before .pre .0) in (omega (arith, c .before .pre .2 .room), s .minimum, s .maximum)
+    let s = one (c .before) (c .before .args .from) (c .before .pre .0) in (omega (arith, c .before .pre .1 .room), s .minimum, s .maximum)
 
 add-i : tie.Need-add-i Inv-loop μ-loop
 add-i c = search needs
@@ -47,19 +53,18 @@ add-load-2 : tie.Need-add-load-2 Inv-loop μ-loop
 add-load-2 c = search needs
 
 load-requires-2 : tie.Need-load-requires-2 Inv-loop μ-loop
+unfolding entries
 load-requires-2 c κs =
     let s = c .before .before .before .before in
-    let k = s .pre .2 .each (c .before .loop .i) (c .loop-test .taken) in (omega (arith, s .pre .2 .room), k .minimum, k .maximum)
+    let k = one s (c .before .loop .i) (c .loop-test .taken) in (omega (arith, s .pre .1 .room), k .minimum, k .maximum)
 
 join-requires : tie.Need-join-requires Inv-loop μ-loop
 unfolding entries
 join-requires c κs =
     let s = c .before .before .before .before .before in
     let l = c .before .before .loop in
-    let u = subst (Under (suc (l .i - 1 - s .args .from) * most)) (sym (l .inv .2))
-    (join-under most (entries s) (s .args .from) (l .i - 1) (omega arith) (λ i p q. small-under (s .pre .2 .each i (omega arith)))) in
-    let v = subst (Under most) (sym (c .load2 .ensures)) (small-under (s .pre .2 .each (l .i) (c .before .loop-test .taken))) in
-    let few : l .i - s .args .from ≤ sideLimit = omega (arith, s .pre .1) in
+    let u = subst Small (sym (l .inv .2)) (s .pre .1 .each (s .args .from) (l .i - 1) (omega arith) (omega (arith, l .inv .1))) in
+    let v = subst Small (sym (c .load2 .ensures)) (one s (l .i) (c .before .loop-test .taken)) in
     (omega (arith, u .sum, v .sum), omega (arith, u .sumSq, v .sumSq), omega (arith, u .count, v .count))
 
 add-i-2 : tie.Need-add-i-2 Inv-loop μ-loop

@@ -1,13 +1,12 @@
 -- `join_rows` meets its contract. The invariant: the numbers are those of the tile rows passed, joined. Assumes nothing.
 use Prim.Native.Nat.{ℕ, suc, _+_, _-_, _*_, _≤_, _<_}
 use mathlib.Core.Path.{_≡_, sym, ap, ap₂, _∙_, subst}
-use native.Mathlib.Nat.{mul-le-mul-right, mul-comm, suc-mul}
+use native.Mathlib.Nat.{le-refl, mul-le-mul-right, mul-comm, suc-mul}
 use native.Mathlib.Omega.{arith}
 use lib.ListN.{length}
 use Rattle.imgproc.specs.declared.tiles.TileNumbers.{TileNumbers}
-use Rattle.imgproc.specs.Tiles.{tileEntry, joined, joinOver, SmallRow}
-use Rattle.image.specs.Layout.{sideLimit}
-use Rattle.imgproc.proofs.tiles.Joins.{join-one, join-next, Under, most, rowMost, small-under, join-under, under-more}
+use Rattle.imgproc.specs.Tiles.{tileEntry, joined, joinOver, Small, SmallRow}
+use Rattle.imgproc.proofs.tiles.Joins.{join-one, join-next}
 use borrow.Author.Needs.{needs}
 use Rattle.imgproc.proofs.tiles.join_rows.Statement.{statement}
 use Rattle.imgproc.proofs.tiles.join_rows.Tie as tie
@@ -33,14 +32,12 @@ within s j t =
 -- and is small
 row-small : (s : tie.Start Inv-loop μ-loop) (j : ℕ) → j ≤ s .args .last
     → SmallRow (s .args .at + 5 * (j * s .args .tiles-x)) (s .args .to) (s .args .workspace .now)
-row-small s j t = record { room = within s j t; each = λ i h. s .pre .3 .each i j (omega (arith, s .pre .1)) (omega arith) }
-
-row-under : (s : tie.Start Inv-loop μ-loop) (j : ℕ) → j ≤ s .args .last → Under rowMost (row s j)
-unfolding row
-row-under s j t =
-    under-more most (suc (s .args .to - s .args .from)) sideLimit (omega (arith, s .pre .1, s .pre .3 .across))
-    (join-under most (λ a. tileEntry (s .args .at) (s .args .tiles-x) (s .args .workspace .now) a j) (s .args .from) (s .args .to) (s .pre .0)
-    (λ i p q. small-under (row-small s j t .each i q)))
+row-small s j t = record {
+  room = within s j t;
+  each = λ a b p q.
+      subst Small (sym (join-one (λ y. joinOver (λ x. tileEntry (s .args .at) (s .args .tiles-x) (s .args .workspace .now) x y) a b) j))
+      (s .pre .3 .each a b j j p (omega (arith, s .pre .1)) (le-refl j) (omega arith));
+}
 
 mul-join-row : tie.Need-mul-join-row Inv-loop μ-loop
 mul-join-row c = omega (arith, within (c .before) (c .before .args .first) (c .before .pre .2))
@@ -53,7 +50,7 @@ add-join-row c = omega (arith, within (c .before) (c .before .args .first) (c .b
 
 join-row-requires : tie.Need-join-row-requires Inv-loop μ-loop
 join-row-requires c κs =
-    (c .before .pre .0, omega (arith, c .before .pre .1, c .before .pre .3 .across), row-small (c .before) (c .before .args .first) (c .before .pre .2))
+    (c .before .pre .0, row-small (c .before) (c .before .args .first) (c .before .pre .2))
 
 add-j : tie.Need-add-j Inv-loop μ-loop
 add-j c = search needs
@@ -76,17 +73,17 @@ add-join-row-2 c = omega (arith, within (c .before .before .before .before) (c .
 
 join-row-requires-2 : tie.Need-join-row-requires-2 Inv-loop μ-loop
 join-row-requires-2 c κs =
-    let s = c .before .before .before .before in (s .pre .0, omega (arith, s .pre .1, s .pre .3 .across), row-small s (c .before .loop .j) (c .loop-test .taken))
+    let s = c .before .before .before .before in (s .pre .0, row-small s (c .before .loop .j) (c .loop-test .taken))
 
 join-requires : tie.Need-join-requires Inv-loop μ-loop
 unfolding row
 join-requires c κs =
     let s = c .before .before .before .before .before in
     let l = c .before .before .loop in
-    let u = subst (Under (suc (l .j - 1 - s .args .first) * rowMost)) (sym (l .inv .2))
-    (join-under rowMost (row s) (s .args .first) (l .j - 1) (omega arith) (λ j p q. row-under s j (omega arith))) in
-    let v = subst (Under rowMost) (sym (c .join-row2 .ensures)) (row-under s (l .j) (c .before .loop-test .taken)) in
-    let few : l .j - s .args .first < sideLimit = omega (arith, s .pre .3 .down, c .before .loop-test .taken) in
+    let u = subst Small (sym (l .inv .2))
+    (s .pre .3 .each (s .args .from) (s .args .to) (s .args .first) (l .j - 1) (s .pre .0) (s .pre .1) (omega arith) (omega (arith, l .inv .1))) in
+    let v = subst Small (sym (c .join-row2 .ensures))
+    (row-small s (l .j) (c .before .loop-test .taken) .each (s .args .from) (s .args .to) (s .pre .0) (le-refl (s .args .to))) in
     (omega (arith, u .sum, v .sum), omega (arith, u .sumSq, v .sumSq), omega (arith, u .count, v .count))
 
 add-j-2 : tie.Need-add-j-2 Inv-loop μ-loop
