@@ -132,7 +132,7 @@ static inline const char *imgproc_refusal_words(uint32_t number) {
     case IMGPROC_EMPTY_DIMENSIONS: return "a side of the picture is zero";
     case IMGPROC_STRIDE_TOO_SMALL: return "the stride is below the width";
     case IMGPROC_BUFFER_TOO_SMALL: return "the buffer does not hold the picture";
-    case IMGPROC_SIDE_TOO_LARGE: return "a side of the picture is above IMGPROC_MAX_SIDE";
+    case IMGPROC_SIDE_TOO_LARGE: return "a side of the picture is above the side limit";
     case IMGPROC_DIMENSION_MISMATCH: return "source and destination differ in size";
     case IMGPROC_INVALID_KERNEL: return "the kernel is even or below 3";
     case IMGPROC_INVALID_CONFIGURATION: return "a setting is out of range";

@@ -82,7 +82,7 @@ impl LumaError {
             Self::EmptyDimensions => "a side of the picture is zero",
             Self::StrideTooSmall => "the stride is below the width",
             Self::BufferTooSmall => "the buffer does not hold the picture",
-            Self::SideTooLarge => "a side of the picture is above MAX_SIDE",
+            Self::SideTooLarge => "a side of the picture is above the side limit",
             Self::OutsidePicture => "the place lies outside the picture",
         }
     }
