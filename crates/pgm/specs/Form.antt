@@ -3,6 +3,7 @@ use Prim.Native.Nat.{ℕ, _+_, _*_, _≤_}
 use mathlib.Core.Path.{_≡_}
 use mathlib.Core.List.{List, [], _∷_, _++_}
 use lib.ListN.{length}
+use Rattle.image.specs.Answers.{Answer, accepted, refused, answerNumber}
 use Rattle.pgm.specs.Decimal.{decimal}
 use Rattle.pgm.specs.declared.Parsed.{Parsed}
 use Rattle.pgm.specs.declared.Parsed.the-variants.{Picture, Malformed}
@@ -49,13 +50,23 @@ longest = headerLimit + sideLimit * sideLimit
 abbrev pub inputLimit : ℕ
 inputLimit = longest + 1
 
--- document 01's number of what was parsed: 0 for a picture, 11 for input of any other form
-abbrev pub parsedNumber : Parsed → ℕ
-parsedNumber (Picture w h at) = 0
-parsedNumber Malformed = 11
+-- the values of a picture: its sides, and where its pixels start
+pub record PictureFound : Type 0 where
+  pub width : ℕ
+  pub height : ℕ
+  pub start : ℕ
 
--- the contract of `parse`: a picture is of the form and its pixels start after the header; what is malformed is of the form
--- for no sides
+-- what `Parsed` says: a picture's values, or 11 for input of any other form
+abbrev pub parsedAnswer : Parsed → Answer PictureFound
+parsedAnswer (Picture w h at) = accepted (record { width = w; height = h; start = at })
+parsedAnswer Malformed = refused 11
+
+-- the number of what was parsed: 0 for a picture
+abbrev pub parsedNumber : Parsed → ℕ
+parsedNumber p = answerNumber (parsedAnswer p)
+
+-- what an input is parsed as: a picture is of the form and its pixels start after the header; what is malformed is of the
+-- form for no sides
 abbrev pub Answers : List ℕ → Parsed → Type 0
 Answers input (Picture w h at) = Form input w h × (at ≡ length (header w h))
 Answers input Malformed = (w h : ℕ) → Form input w h → ⊥

@@ -6,7 +6,8 @@ use lib.Dec.{eqb}
 use lib.ListN.{length}
 use Rattle.pgm.specs.declared.Parsed.{Parsed}
 use Rattle.pgm.specs.declared.Parsed.the-variants.{Picture, Malformed}
-use Rattle.pgm.specs.Form.{sideLimit, header}
+use Rattle.pgm.specs.Form.{sideLimit, header, PictureFound, parsedAnswer}
+use Rattle.image.specs.Answers.{Answer}
 
 -- whether the bytes begin with a text
 abbrev pub begins : List ℕ → List ℕ → Bool
@@ -33,3 +34,7 @@ sought input (suc n) =
 unfoldable pub parsedOf : List ℕ → Parsed
 unfolding sought
 parsedOf input = sought input (sides * sides)
+
+-- the contract of `parse`: the answer to an input
+abbrev pub parsedFrom : List ℕ → Answer PictureFound
+parsedFrom input = parsedAnswer (parsedOf input)

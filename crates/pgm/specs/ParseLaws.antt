@@ -10,11 +10,12 @@ use lib.Dec.{eqb, ltb}
 use lib.ListN.{length, take, drop, length-append, length-drop}
 use lib.Seq.{take-all, length-take-le}
 use borrow.Author.Tests.{eqb-true, eqb-false, eq-eqb, ltb-true, ltb-false}
+use Rattle.image.specs.Answers.{accepted}
 use Rattle.pgm.specs.declared.Parsed.{Parsed}
 use Rattle.pgm.specs.declared.Parsed.the-variants.{Picture, Malformed}
-use Rattle.pgm.specs.Form.{sideLimit, header, Form, inputLimit, Answers}
+use Rattle.pgm.specs.Form.{sideLimit, header, Form, inputLimit, PictureFound, parsedAnswer, Answers}
 use Rattle.pgm.specs.FormLaws.{same-header, form-short}
-use Rattle.pgm.specs.Parse.{begins, formed, sides, sought, parsedOf}
+use Rattle.pgm.specs.Parse.{begins, formed, sides, sought, parsedOf, parsedFrom}
 
 -- of two tests both hold
 both : (a b : Bool) → (a && b) ≡ true → (a ≡ true) × (b ≡ true)
@@ -91,10 +92,6 @@ answers-found input Malformed k = λ w h f.
     let z : _≡_ {A = ℕ} 0 1 = cc (yes, no) in
     omega arith
 
--- what is known of an answer, once it is known which it is
-pub parsed-as : (input : List ℕ) {r s : Parsed} → r ≡ s → Answers input r → Answers input s
-parsed-as input e a = subst (λ (p : Parsed). Answers input p) e a
-
 -- the parse of any input meets what pgm's `parse` promises, and nothing else does
 pub parsed-answers : (input : List ℕ) → Answers input (parsedOf input)
 unfolding parsedOf
@@ -113,6 +110,33 @@ parsed-once input (Picture w h at) (Picture v g to) p q =
 parsed-once input (Picture w h at) Malformed p q = absurd (q w h (p .0))
 parsed-once input Malformed (Picture v g to) p q = absurd (p v g (q .0))
 parsed-once input Malformed Malformed p q = refl
+
+-- the answer determines what was parsed
+told-once : (r s : Parsed) → parsedAnswer r ≡ parsedAnswer s → r ≡ s
+told-once (Picture w h at) (Picture v g to) p =
+    let q : _≡_ {A = PictureFound} (record { width = w; height = h; start = at }) (record { width = v; height = g; start = to }) = cc in
+    let a : w ≡ v = ap (λ (f : PictureFound). f .width) q in
+    let b : h ≡ g = ap (λ (f : PictureFound). f .height) q in
+    let c : at ≡ to = ap (λ (f : PictureFound). f .start) q in
+    cc
+told-once (Picture w h at) Malformed p = let z : _≡_ {A = ℕ} 0 1 = cc in absurd (omega arith)
+told-once Malformed (Picture v g to) p = let z : _≡_ {A = ℕ} 0 1 = cc in absurd (omega arith)
+told-once Malformed Malformed p = refl
+
+-- so what meets the form has the answer, and the answer the form
+pub parsed-from : (input : List ℕ) (r : Parsed) → Answers input r → parsedAnswer r ≡ parsedFrom input
+parsed-from input r a = ap parsedAnswer (parsed-once input r (parsedOf input) a (parsed-answers input))
+
+pub picture-from : (input : List ℕ) {w h at : ℕ} → Answers input (Picture w h at)
+    → accepted (record { width = w; height = h; start = at }) ≡ parsedFrom input
+picture-from input {w} {h} {at} a = parsed-from input (Picture w h at) a
+
+pub parsed-means : (input : List ℕ) (r : Parsed) → parsedAnswer r ≡ parsedFrom input → Answers input r
+parsed-means input r e = subst (λ (p : Parsed). Answers input p) (sym (told-once r (parsedOf input) e)) (parsed-answers input)
+
+-- once what was parsed is known
+pub parsed-as : (input : List ℕ) {r s : Parsed} → r ≡ s → parsedAnswer r ≡ parsedFrom input → Answers input s
+parsed-as input {s = s} e a = parsed-means input s (ap parsedAnswer (sym e) ∙ a)
 
 -- anything that is made of what is parsed, once an answer is known
 pub parsed-by : {A : Type 0} (by : Parsed → List ℕ → A) (input : List ℕ) (r : Parsed) → Answers input r →

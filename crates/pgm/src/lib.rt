@@ -5,7 +5,8 @@ ghost use mathlib.Core.Path.{_≡_};
 ghost use mathlib.Core.List.{[], _∷_, _++_};
 ghost use lib.ListN.{length, getD};
 ghost use Rattle.pgm.specs.Decimal.{decimal};
-ghost use Rattle.pgm.specs.Form.{Answers};
+ghost use Rattle.pgm.specs.Form.{parsedAnswer};
+ghost use Rattle.pgm.specs.Parse.{parsedFrom};
 ghost use Rattle.pgm.specs.Line.{line, refusedLine, Writes};
 ghost use Rattle.pgm.specs.Steps.{Digit, Stands, ReadsSide, ReadsHeader, Puts, three};
 
@@ -120,7 +121,7 @@ fn read_header(input: &[u8]) -> Parsed
 
 // Parses an input: gives the sides of the picture that it is and where its pixels start, or that it has another form.
 pub fn parse(input: &[u8]) -> Parsed
-    ensures { λ r. ⌜ Answers (now (input .entry)) r ⌝ }
+    ensures { λ r. ⌜ parsedAnswer r ≡ parsedFrom (now (input .entry)) ⌝ }
 {
     let Parsed::Picture(width, height, at) = read_header(input) else {
         return Parsed::Malformed;

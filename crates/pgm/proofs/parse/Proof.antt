@@ -2,6 +2,8 @@
 use borrow.Author.Needs.{needs}
 use native.Mathlib.Omega.{arith}
 use denote.Ref.{now}
+use Rattle.pgm.specs.ParseLaws.{parsed-from, picture-from}
+use Rattle.pgm.specs.declared.Parsed.the-variants.{Malformed}
 use Rattle.pgm.proofs.Headers.{header-as, no-header, header-inside, pixels-few, miscounted, formed}
 use Rattle.pgm.proofs.parse.Statement.{statement}
 use Rattle.pgm.proofs.parse.Tie as tie
@@ -19,7 +21,7 @@ returns : tie.Need-returns
 returns c =
     let read = c .before .before in
     let l = now (read .before .before .args .input) in
-    no-header l (header-as l (c .enum-told .given .1) (read .read-header .ensures))
+    parsed-from l Malformed (no-header l (header-as l (c .enum-told .given .1) (read .read-header .ensures)))
 
 sub-if1 : tie.Need-sub-if1
 sub-if1 c =
@@ -39,14 +41,14 @@ returns-2 c =
     let width = c .before .before in
     let read = width .before .before in
     let l = now (read .before .before .args .input) in
-    miscounted l _ _ _ (header-as l (width .width .given .1) (read .read-header .ensures)) (c .if1 .taken)
+    parsed-from l Malformed (miscounted l _ _ _ (header-as l (width .width .given .1) (read .read-header .ensures)) (c .if1 .taken))
 
 returns-3 : tie.Need-returns-3
 returns-3 c =
     let width = c .before .before in
     let read = width .before .before in
     let l = now (read .before .before .args .input) in
-    formed l _ _ _ (header-as l (width .width .given .1) (read .read-header .ensures)) (c .if1 .left)
+    picture-from l (formed l _ _ _ (header-as l (width .width .given .1) (read .read-header .ensures)) (c .if1 .left))
 
 pub parse-spec : {M : Type 1} → statement M
 parse-spec =
