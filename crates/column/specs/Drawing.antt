@@ -1,6 +1,6 @@
 -- What the program `column` writes for each input: the line of the program `reading`, and the rows of its picture.
 -- Definitions only.
-use Prim.Native.Nat.{ℕ, _+_, _*_, _≤_, _<_}
+use Prim.Native.Nat.{ℕ, _+_, _*_, _≤_}
 use mathlib.Core.Path.{_≡_}
 use mathlib.Core.Bool.{cond}
 use mathlib.Core.List.{List, [], _++_}

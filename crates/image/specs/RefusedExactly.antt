@@ -8,14 +8,16 @@ use mathlib.Core.List.{List, [], _∷_, _++_}
 use mathlib.Core.Logic.{_↔_}
 use lib.Dec.{ltb}
 use lib.ListN.{length}
+use denote.Ref.{RefT, now, ptr}
 use Rattle.image.specs.declared.Geometry.{Geometry}
 use Rattle.image.specs.declared.LumaError.{LumaError}
 use Rattle.image.specs.declared.LumaError.the-variants.{OutsidePicture}
 use Rattle.image.specs.declared.Layout.{Layout}
 use Rattle.image.specs.declared.Layout.the-variants.{Valid, Invalid}
 use Rattle.image.specs.Answers.{Answer, accepted, refused, Bare, bare, Condition, numbered, answerTo}
-use Rattle.image.specs.Layout.{layoutConditions, layoutBy, layoutOf, askedFor, pixelLayout, numberOf, layoutAnswer}
+use Rattle.image.specs.Layout.{layoutConditions, layoutBy, layoutOf, askedFor, pixelLayout, rowLayout, numberOf, layoutAnswer}
 use Rattle.image.specs.Plane.{pixel}
+use Rattle.image.specs.Row.{rowIn, rowAt, Hands}
 use Rattle.image.specs.Pixel.{valueIn, writtenIn, bytesIn, Sets}
 use Rattle.image.specs.Copy.{copiedIn, packedIn, unpackedIn, Packs, Unpacks}
 
@@ -110,6 +112,35 @@ module _ {A : Type 0} (g : Geometry) (by : Layout → Answer A) (passes : (e : L
 pub layout-exactly : (len : ℕ) (g : Geometry) → Exactly (layoutNumbers len g ++ []) g (layoutAnswer (layoutOf len g))
 unfolding answerTo
 layout-exactly len g = exactly g (layoutNumbers len g ++ []) (layout-through g layoutAnswer (λ e. refl) [] g refl len)
+
+-- a place asked for by number: `check_pixel` and `check_row`
+asked-exactly : (len : ℕ) (g : Geometry) (inside : Bool)
+    → Exactly (layoutNumbers len g ++ outside inside) g (layoutAnswer (askedFor (layoutOf len g) inside))
+unfolding answerTo
+asked-exactly len g inside =
+    exactly g (layoutNumbers len g ++ outside inside)
+    (layout-through g (λ l. layoutAnswer (askedFor l inside)) (λ e. refl) (outside inside) g (asked inside) len)
+  where
+    asked : (b : Bool) → layoutAnswer (askedFor (Valid g) b) ≡ answerTo (outside b) g
+    asked true = refl
+    asked false = refl
+
+pub check-pixel-exactly : (len : ℕ) (g : Geometry) (x y : ℕ)
+    → Exactly (layoutNumbers len g ++ outside (ltb x (g .width) && ltb y (g .height))) g (layoutAnswer (pixelLayout len g x y))
+check-pixel-exactly len g x y = asked-exactly len g (ltb x (g .width) && ltb y (g .height))
+
+pub check-row-exactly : (len : ℕ) (g : Geometry) (y : ℕ)
+    → Exactly (layoutNumbers len g ++ outside (ltb y (g .height))) g (layoutAnswer (rowLayout len g y))
+check-row-exactly len g y = asked-exactly len g (ltb y (g .height))
+
+-- `row` and `row_mut`: where `check_row` refuses, an empty part at the slice's start is handed out
+pub row-refused : {d r : RefT (List ℕ)} {g : Geometry} {y n : ℕ} → Hands d g y r
+    → layoutAnswer (rowLayout (length (now d)) g y) ≡ refused n → (now r ≡ []) × (ptr r ≡ ptr d)
+row-refused {d} {r} {g} {y} h p = let e = go (rowLayout (length (now d)) g y) p in (h .bytes ∙ e .0, h .place ∙ e .1)
+  where
+    go : (l : Layout) {n : ℕ} → layoutAnswer l ≡ refused n → (rowIn l (now d) y ≡ []) × (rowAt l (ptr d) y ≡ ptr d)
+    go (Valid v) q = absurd (differ v q)
+    go (Invalid e) q = (refl, refl)
 
 -- `get` and `set`
 module _ (d : List ℕ) (g : Geometry) (x y : ℕ) where

@@ -1,10 +1,8 @@
 -- The contract of a call from picture to picture, by its way out. Assumes nothing.
-use Prim.Native.Nat.{ℕ}
 use mathlib.Core.Path.{_≡_, refl, sym, ap, ap₂, _∙_}
-use mathlib.Core.List.{List}
 use lib.ListN.{length}
 use Rattle.image.specs.declared.Geometry.{Geometry}
-use Rattle.image.specs.Answers.{Answer, accepted, refused}
+use Rattle.image.specs.Answers.{accepted, refused}
 use Rattle.image.specs.Plane.{painted, picture}
 use Rattle.imgproc.specs.declared.ImgProcError.{ImgProcError}
 use Rattle.imgproc.specs.declared.Check.the-variants.{Accepted, Refused}

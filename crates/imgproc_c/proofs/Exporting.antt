@@ -1,6 +1,6 @@
 -- From a call's contract and the telling of its answer to the export's. Assumes nothing.
 use Prim.Native.Nat.{ℕ}
-use mathlib.Core.Path.{_≡_, refl, ap, subst, _∙_}
+use mathlib.Core.Path.{_≡_, refl, subst}
 use Rattle.image.specs.Answers.{Answer, accepted, refused, answerNumber, valuesOut, Bare, bare}
 use Rattle.imgproc.specs.Calls.{Operator, Loan, Left, Serves}
 use Rattle.imgproc_c.specs.Exports.{Tells, Exports}

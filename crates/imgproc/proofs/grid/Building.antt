@@ -1,6 +1,5 @@
 -- The ways out of `build`, from the layout and the check that the code holds. Assumes nothing.
 use mathlib.Core.Path.{_≡_, refl, sym, ap, ap₂, _∙_, subst}
-use mathlib.Core.List.{List}
 use Prim.Native.Nat.{ℕ}
 use lib.ListN.{length}
 use Rattle.image.specs.declared.Geometry.{Geometry}
@@ -21,7 +20,6 @@ use Rattle.imgproc.specs.GridCalls.{
   gridRoom,
   BuildLent,
   BuildLeft,
-  TileCounts,
   buildConditions,
   Builds,
   Rooms,

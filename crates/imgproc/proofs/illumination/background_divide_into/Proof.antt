@@ -1,8 +1,8 @@
 -- `background_divide_into` meets its contract: each way out is one law of the check. Assumes nothing.
 use borrow.Author.Needs.{needs}
-use Prim.Native.Nat.{ℕ, _*_}
+use Prim.Native.Nat.{_*_}
 use native.Mathlib.Omega.{arith}
-use mathlib.Core.Path.{sym, ap, _∙_}
+use mathlib.Core.Path.{sym, _∙_}
 use lib.Dec.{ltb}
 use lib.ListN.{length}
 use denote.Ref.{now}
