@@ -1,7 +1,7 @@
 """The program as the rules see it: what carries a tally, what sweeps, who calls whom. The names that the rules know stand here."""
 from mir import BYTE, Unknown, callee, calls, head
 
-MODULE = 'imgproc::tally::'
+MODULE = 'imgproc::morphology::tally::'
 TALLY, MET = MODULE + 'Tally', MODULE + 'Met'
 START, LESSER, GREATER, COUNTED, CHOSEN, NUMBER = (
     MODULE + name for name in ('start', 'lesser', 'greater', 'counted', 'chosen', 'comparisons')
@@ -10,7 +10,7 @@ START, LESSER, GREATER, COUNTED, CHOSEN, NUMBER = (
 OTHER_PARTS = {
     'imgproc::illumination::divide_plane': 'imgproc::illumination::flatten',
     'imgproc::reading::mark_tiles': 'imgproc::reading::read_picture',
-    'imgproc::judging::judge_picture': 'imgproc::reading::read_picture',
+    'imgproc::reading::judging::judge_picture': 'imgproc::reading::read_picture',
 }
 # Who writes the program's line, and who tells a refusal: all that the holder of an answer calls.
 LINE, REFUSALS = 'pgm::counts_line', ('imgproc::number', 'pgm::refused_line')

@@ -2,8 +2,8 @@
 
 CRATE = 'imgproc'
 # The module of the sweeps and of their owners, and the struct that is lent, as paths with dots.
-MODULE = 'rect'
-TALLY = 'tally.Tally'
+MODULE = 'morphology.rect'
+TALLY = 'morphology.tally.Tally'
 # The owners: functions that lend a tally to sweeps. Each has a name in front of its two files in the module's proofs:
 # `<name>Numbers`, which is generated, and `<name>Facts`, which is written by hand.
 OWNERS = {'morph_rect_into': 'Morph', 'morph_rect_twice': 'Twice'}

@@ -6,9 +6,9 @@ use mathlib.Core.List.{List}
 use lib.ListN.{length, drop, take, length-append, length-drop}
 use lib.Seq.{take-length}
 use Rattle.imgproc.specs.declared.illumination.BackgroundDivideConfig.{BackgroundDivideConfig}
-use Rattle.imgproc.specs.declared.grid.TileThresholdConfig.{TileThresholdConfig}
+use Rattle.imgproc.specs.declared.grid.config.TileThresholdConfig.{TileThresholdConfig}
 use Rattle.imgproc.specs.declared.threshold.SauvolaConfig.{SauvolaConfig}
-use Rattle.imgproc.specs.declared.reading.ReadingConfig.{ReadingConfig}
+use Rattle.imgproc.specs.declared.reading.config.ReadingConfig.{ReadingConfig}
 use Rattle.imgproc.specs.declared.reading.Read.{Read}
 use Rattle.imgproc.specs.Division.{divisionDefaults}
 use Rattle.imgproc.specs.Grid.{gridDefaults}

@@ -5,8 +5,8 @@ use mathlib.Core.List.{List, [], _∷_}
 use lib.IntN.{pos}
 use Rattle.image.specs.declared.Geometry.{Geometry}
 use Rattle.image.specs.Answers.{Answer, accepted, refused}
-use Rattle.imgproc.specs.declared.grid.TileThresholdMethod.the-variants.{Midrange}
-use Rattle.imgproc.specs.declared.reading.ReadingConfig.{ReadingConfig}
+use Rattle.imgproc.specs.declared.grid.config.TileThresholdMethod.the-variants.{Midrange}
+use Rattle.imgproc.specs.declared.reading.config.ReadingConfig.{ReadingConfig}
 use Rattle.imgproc.specs.Refusals.{first, answerBy}
 use Rattle.imgproc.specs.Reading.{ReadingLent, ReadingLeft, ReadingNumbers, readingConditions, numbersFrom, Reads}
 use Rattle.pgm.specs.declared.Parsed.the-variants.{Malformed}

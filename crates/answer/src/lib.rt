@@ -4,7 +4,7 @@ use image::Geometry;
 use imgproc::illumination::BackgroundDivideConfig;
 use imgproc::reading::Read;
 use imgproc::reading::ReadingConfig;
-use imgproc::tally;
+use imgproc::morphology::tally;
 use imgproc::threshold::SauvolaConfig;
 use pgm::Parsed;
 ghost use mathlib.Core.Path.{_≡_};
@@ -44,7 +44,7 @@ fn settings() -> ReadingConfig
     ReadingConfig {
         division: BackgroundDivideConfig::default(),
         opening_kernel: 3,
-        grid: imgproc::grid::default_config(),
+        grid: imgproc::grid::TileThresholdConfig::default(),
         sauvola: SauvolaConfig::default(),
     }
 }

@@ -12,8 +12,8 @@ use borrow.Author.Tests.{eq-eqb, ne-eqb, eqb-false}
 use Rattle.image.specs.Plane.{pixel, painted, overwritten}
 use Rattle.image.specs.PlaneLaws.{in-plane, pixel-plane, plane-same, length-plane}
 use Rattle.image.specs.PaintLaws.{length-painted, painted-pixel}
-use Rattle.imgproc.specs.declared.judging.Judgement.{Judgement}
-use Rattle.imgproc.specs.declared.judging.Judgement.the-variants.{Dark, Light, Skipped}
+use Rattle.imgproc.specs.declared.reading.judging.Judgement.{Judgement}
+use Rattle.imgproc.specs.declared.reading.judging.Judgement.the-variants.{Dark, Light, Skipped}
 use Rattle.imgproc.specs.Reading.{judged, byteOf, marked}
 use Rattle.pgm.specs.declared.Parsed.{Parsed}
 use Rattle.pgm.specs.declared.Parsed.the-variants.{Picture}

@@ -7,8 +7,8 @@ use mathlib.Core.List.{List, [], _++_}
 use lib.Dec.{eqb}
 use lib.ListN.{length, drop}
 use Rattle.image.specs.Plane.{pixel, plane, overwritten}
-use Rattle.imgproc.specs.declared.judging.Judgement.{Judgement}
-use Rattle.imgproc.specs.declared.judging.Judgement.the-variants.{Dark, Light, Skipped}
+use Rattle.imgproc.specs.declared.reading.judging.Judgement.{Judgement}
+use Rattle.imgproc.specs.declared.reading.judging.Judgement.the-variants.{Dark, Light, Skipped}
 use Rattle.imgproc.specs.Reading.{judged}
 use Rattle.pgm.specs.declared.Parsed.{Parsed}
 use Rattle.pgm.specs.declared.Parsed.the-variants.{Picture, Malformed}

@@ -1,19 +1,4 @@
--- Laws that the proofs of several functions cite.
+-- Laws that the proofs of several modules cite.
 pub mod WaysOut
 pub mod Serving
-pub mod Blocks
-pub mod Lanes
-pub mod Passes
-pub mod Planes
-pub mod MorphologyRuns
-pub mod MorphologyWays
-pub mod DivisionRuns
-pub mod TableLaws
-pub mod CornerLaws
-pub mod VerdictLaws
 pub mod Answers
-pub mod Folds
-pub mod JudgeLaws
-pub mod ReadingRuns
-pub mod ReadingDone
-pub mod ReadingWays

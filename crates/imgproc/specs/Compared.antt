@@ -3,8 +3,8 @@ use mathlib.Core.Path.{_≡_}
 use mathlib.Core.Bool.{Bool, true, false}
 use Prim.Native.Nat.{ℕ, min, max}
 use Rattle.imgproc.specs.Extremes.{Low, High}
-use Rattle.imgproc.specs.declared.tally.Tally.{Tally}
-use Rattle.imgproc.specs.declared.tally.Met.{Met}
+use Rattle.imgproc.specs.declared.morphology.tally.Tally.{Tally}
+use Rattle.imgproc.specs.declared.morphology.tally.Met.{Met}
 use Rattle.imgproc.specs.Tallies.{Raised}
 
 -- a comparison: the extreme of the two samples, and the tally raised by 1

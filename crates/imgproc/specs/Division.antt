@@ -7,7 +7,7 @@ use Rattle.image.specs.declared.Geometry.{Geometry}
 use Rattle.image.specs.Layout.{Kept}
 use Rattle.image.specs.Plane.{plane, pixel, painted, part, picture}
 use Rattle.imgproc.specs.declared.illumination.BackgroundDivideConfig.{BackgroundDivideConfig}
-use Rattle.imgproc.specs.declared.tally.Tally.{Tally}
+use Rattle.imgproc.specs.declared.morphology.tally.Tally.{Tally}
 use Rattle.imgproc.specs.Tallies.{Raised, HasRoom, Stands}
 use Rattle.imgproc.specs.Reach.{sweepWalks}
 use Rattle.imgproc.specs.Morphology.{sweptRect, closed}

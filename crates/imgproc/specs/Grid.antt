@@ -7,9 +7,9 @@ use lib.IntN.{ℤ, pos, negsuc, _+ℤ_}
 use lib.Ieee.{Float, fin, binary64, ofInt, add, sub, mul, div, lt, le}
 use Rattle.image.specs.Layout.{areaLimit}
 use Rattle.image.specs.Plane.{tabulate, pixel}
-use Rattle.imgproc.specs.declared.grid.TileThresholdConfig.{TileThresholdConfig}
-use Rattle.imgproc.specs.declared.grid.TileThresholdMethod.{TileThresholdMethod}
-use Rattle.imgproc.specs.declared.grid.TileThresholdMethod.the-variants.{Midrange, Sauvola}
+use Rattle.imgproc.specs.declared.grid.config.TileThresholdConfig.{TileThresholdConfig}
+use Rattle.imgproc.specs.declared.grid.config.TileThresholdMethod.{TileThresholdMethod}
+use Rattle.imgproc.specs.declared.grid.config.TileThresholdMethod.the-variants.{Midrange, Sauvola}
 use Rattle.imgproc.specs.Fold.{Box, bit, foldBox}
 use Rattle.imgproc.specs.Reach.{low, high, ceiling}
 use Rattle.imgproc.specs.Sums.{sum, sumSquares, count}

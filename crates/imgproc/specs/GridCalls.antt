@@ -16,18 +16,18 @@ use Rattle.imgproc.specs.declared.ImgProcError.{ImgProcError}
 use Rattle.imgproc.specs.declared.ImgProcError.the-variants.{Image, InvalidConfiguration, WorkspaceTooSmall, GridBufferTooSmall}
 use Rattle.imgproc.specs.declared.Check.{Check}
 use Rattle.imgproc.specs.declared.Check.the-variants.{Accepted, Refused}
-use Rattle.imgproc.specs.declared.grid.TileThresholdConfig.{TileThresholdConfig}
-use Rattle.imgproc.specs.declared.grid.TileThresholdMethod.{TileThresholdMethod}
-use Rattle.imgproc.specs.declared.grid.TileThresholdMethod.the-variants.{Midrange, Sauvola}
-use Rattle.imgproc.specs.declared.grid.TileThresholdGrid.{TileThresholdGrid}
+use Rattle.imgproc.specs.declared.grid.config.TileThresholdConfig.{TileThresholdConfig}
+use Rattle.imgproc.specs.declared.grid.config.TileThresholdMethod.{TileThresholdMethod}
+use Rattle.imgproc.specs.declared.grid.config.TileThresholdMethod.the-variants.{Midrange, Sauvola}
+use Rattle.imgproc.specs.declared.grid.queries.TileThresholdGrid.{TileThresholdGrid}
 use Rattle.imgproc.specs.declared.grid.Built.{Built}
 use Rattle.imgproc.specs.declared.grid.Built.the-variants.{Tiles, Refused as Built·Refused}
-use Rattle.imgproc.specs.declared.query.TilePlace.{TilePlace}
-use Rattle.imgproc.specs.declared.query.TilePlace.the-variants.{At, Refused as TilePlace·Refused}
-use Rattle.imgproc.specs.declared.grid.TileThreshold.{TileThreshold}
-use Rattle.imgproc.specs.declared.grid.TileThreshold.the-variants.{Value, Refused as TileThreshold·Refused}
-use Rattle.imgproc.specs.declared.grid.TileSkip.{TileSkip}
-use Rattle.imgproc.specs.declared.grid.TileSkip.the-variants.{Is, Refused as TileSkip·Refused}
+use Rattle.imgproc.specs.declared.grid.queries.TilePlace.{TilePlace}
+use Rattle.imgproc.specs.declared.grid.queries.TilePlace.the-variants.{At, Refused as TilePlace·Refused}
+use Rattle.imgproc.specs.declared.grid.queries.TileThreshold.{TileThreshold}
+use Rattle.imgproc.specs.declared.grid.queries.TileThreshold.the-variants.{Value, Refused as TileThreshold·Refused}
+use Rattle.imgproc.specs.declared.grid.queries.TileSkip.{TileSkip}
+use Rattle.imgproc.specs.declared.grid.queries.TileSkip.the-variants.{Is, Refused as TileSkip·Refused}
 use Rattle.imgproc.specs.Reach.{ceiling}
 use Rattle.imgproc.specs.Grid.{tilesX, tilesY, nought, thresholds, skips}
 use Rattle.imgproc.specs.Refusals.{

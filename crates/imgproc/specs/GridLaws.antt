@@ -10,7 +10,7 @@ use borrow.Author.Tests.{le-ltb}
 use Rattle.image.specs.Layout.{sideLimit}
 use Rattle.image.specs.LayoutLaws.{sides-small}
 use Rattle.image.specs.Plane.{pixel}
-use Rattle.imgproc.specs.declared.grid.TileThresholdConfig.{TileThresholdConfig}
+use Rattle.imgproc.specs.declared.grid.config.TileThresholdConfig.{TileThresholdConfig}
 use Rattle.imgproc.specs.Reach.{low, high, ceiling}
 use Rattle.imgproc.specs.Grid.{tilesX, tilesY, tilesLimit, tileFrom, tileTo, around, least, most, skipOf}
 use Rattle.imgproc.specs.Extremes.{Near, Between, Inside, Some}

@@ -27,7 +27,7 @@ pub mod RootBest
 pub mod Grid
 pub mod Tiles
 pub mod GridLaws
-pub mod Surface
+pub mod TileBytes
 pub mod GridCalls
 pub mod Reading
 pub mod ReadingSteps

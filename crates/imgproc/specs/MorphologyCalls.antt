@@ -11,7 +11,7 @@ use Rattle.imgproc.specs.declared.morphology.Operation.{Operation}
 use Rattle.imgproc.specs.declared.morphology.Operation.the-variants.{Erode, Dilate, Open, Close}
 use Rattle.imgproc.specs.declared.morphology.Compared.{Compared}
 use Rattle.imgproc.specs.declared.morphology.Compared.the-variants.{Comparisons, Refused as Compared·Refused}
-use Rattle.imgproc.specs.declared.tally.Tally.{Tally}
+use Rattle.imgproc.specs.declared.morphology.tally.Tally.{Tally}
 use Rattle.imgproc.specs.Tallies.{Raised, HasRoom, Stands}
 use Rattle.imgproc.specs.Reach.{sweepWalks, R}
 use Rattle.imgproc.specs.Refusals.{errorNumber, kernelAndRoom}

@@ -4,10 +4,10 @@ use mathlib.Core.List.{List, [], _∷_}
 use Prim.Native.Nat.{ℕ}
 use lib.IntN.{ℤ, pos, negsuc}
 use lib.Ieee.{binary64, ofBits}
-use Rattle.imgproc.specs.declared.grid.TileThresholdConfig.{TileThresholdConfig}
-use Rattle.imgproc.specs.declared.grid.TileThresholdGrid.{TileThresholdGrid}
-use Rattle.imgproc.specs.declared.grid.TileThresholdMethod.{TileThresholdMethod}
-use Rattle.imgproc.specs.declared.grid.TileThresholdMethod.the-variants.{Midrange, Sauvola}
+use Rattle.imgproc.specs.declared.grid.config.TileThresholdConfig.{TileThresholdConfig}
+use Rattle.imgproc.specs.declared.grid.queries.TileThresholdGrid.{TileThresholdGrid}
+use Rattle.imgproc.specs.declared.grid.config.TileThresholdMethod.{TileThresholdMethod}
+use Rattle.imgproc.specs.declared.grid.config.TileThresholdMethod.the-variants.{Midrange, Sauvola}
 use Rattle.imgproc.specs.Cases.{Case, _gives_}
 use Rattle.imgproc.specs.Grid.{thresholds, skips}
 use Rattle.imgproc.specs.GridCalls.{gridSettings, queryConditions, tileOf, allSkipped}

@@ -4,10 +4,10 @@ use Prim.Native.Nat.{ℕ}
 use lib.IntN.{pos}
 use lib.ListN.{replicate}
 use Rattle.image.specs.Plane.{packed, painted}
-use Rattle.imgproc.specs.declared.grid.TileThresholdConfig.{TileThresholdConfig}
-use Rattle.imgproc.specs.declared.grid.TileThresholdMethod.the-variants.{Midrange}
+use Rattle.imgproc.specs.declared.grid.config.TileThresholdConfig.{TileThresholdConfig}
+use Rattle.imgproc.specs.declared.grid.config.TileThresholdMethod.the-variants.{Midrange}
 use Rattle.imgproc.specs.declared.threshold.SauvolaConfig.{SauvolaConfig}
-use Rattle.imgproc.specs.declared.reading.ReadingConfig.{ReadingConfig}
+use Rattle.imgproc.specs.declared.reading.config.ReadingConfig.{ReadingConfig}
 use Rattle.imgproc.specs.Sauvola.{sauvolaDefaults}
 use Rattle.imgproc.specs.Reading.{ReadingNumbers, readingOf, marked}
 use Rattle.imgproc.specs.Cases.{Case, _gives_}

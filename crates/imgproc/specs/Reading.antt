@@ -8,13 +8,13 @@ use lib.ListN.{length}
 use Rattle.image.specs.declared.Geometry.{Geometry}
 use Rattle.image.specs.Answers.{Answer, accepted, refused}
 use Rattle.image.specs.Plane.{plane, painted, picture}
-use Rattle.imgproc.specs.declared.reading.ReadingConfig.{ReadingConfig}
+use Rattle.imgproc.specs.declared.reading.config.ReadingConfig.{ReadingConfig}
 use Rattle.imgproc.specs.declared.reading.ReadingCounts.{ReadingCounts}
-use Rattle.imgproc.specs.declared.judging.Judgement.{Judgement}
-use Rattle.imgproc.specs.declared.judging.Judgement.the-variants.{Dark, Light, Skipped}
+use Rattle.imgproc.specs.declared.reading.judging.Judgement.{Judgement}
+use Rattle.imgproc.specs.declared.reading.judging.Judgement.the-variants.{Dark, Light, Skipped}
 use Rattle.imgproc.specs.declared.reading.Read.{Read}
 use Rattle.imgproc.specs.declared.reading.Read.the-variants.{Counts, Refused as Read·Refused}
-use Rattle.imgproc.specs.declared.grid.TileThresholdConfig.{TileThresholdConfig}
+use Rattle.imgproc.specs.declared.grid.config.TileThresholdConfig.{TileThresholdConfig}
 use Rattle.imgproc.specs.declared.ImgProcError.the-variants.{InvalidKernel, WorkspaceTooSmall}
 use Rattle.imgproc.specs.declared.threshold.SauvolaConfig.{SauvolaConfig}
 use Rattle.imgproc.specs.Reach.{R, walk}

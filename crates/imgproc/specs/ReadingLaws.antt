@@ -9,9 +9,9 @@ use native.Mathlib.Omega.{arith}
 use mathlib.Core.Logic.{⊎-elim}
 use lib.Arith.{digits-mod, digits-div}
 use Rattle.image.specs.PlaneLaws.{in-plane}
-use Rattle.imgproc.specs.declared.reading.ReadingConfig.{ReadingConfig}
-use Rattle.imgproc.specs.declared.judging.Judgement.{Judgement}
-use Rattle.imgproc.specs.declared.judging.Judgement.the-variants.{Dark, Light, Skipped}
+use Rattle.imgproc.specs.declared.reading.config.ReadingConfig.{ReadingConfig}
+use Rattle.imgproc.specs.declared.reading.judging.Judgement.{Judgement}
+use Rattle.imgproc.specs.declared.reading.judging.Judgement.the-variants.{Dark, Light, Skipped}
 use Rattle.imgproc.specs.Fold.{bit}
 use Rattle.imgproc.specs.Reach.{walk}
 use Rattle.imgproc.specs.Walks.{same-walk, walk-le, reading-below}

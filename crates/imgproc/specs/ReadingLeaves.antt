@@ -12,9 +12,9 @@ use Rattle.image.specs.LayoutLaws.{row-within}
 use Rattle.image.specs.Plane.{pixel, packed}
 use Rattle.image.specs.PlaneLaws.{pixel-plane, same-pixels}
 use Rattle.image.specs.PaintLaws.{length-painted, painted-byte, painted-pixel}
-use Rattle.imgproc.specs.declared.reading.ReadingConfig.{ReadingConfig}
-use Rattle.imgproc.specs.declared.judging.Judgement.{Judgement}
-use Rattle.imgproc.specs.declared.judging.Judgement.the-variants.{Dark, Light, Skipped}
+use Rattle.imgproc.specs.declared.reading.config.ReadingConfig.{ReadingConfig}
+use Rattle.imgproc.specs.declared.reading.judging.Judgement.{Judgement}
+use Rattle.imgproc.specs.declared.reading.judging.Judgement.the-variants.{Dark, Light, Skipped}
 use Rattle.imgproc.specs.Reading.{judged, readingOf, byteOf, marked, marksFrom}
 use Rattle.imgproc.specs.ReadingMeans.{AcceptedReading, settingsOf, wide, high, sourceOf, judgedHere, said, pair, numbers-are}
 

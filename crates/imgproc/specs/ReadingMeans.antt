@@ -12,9 +12,9 @@ use lib.ListN.{length}
 use borrow.Author.Tests.{leb-true, leb-false, le-leb, lt-leb}
 use Rattle.image.specs.Answers.{accepted}
 use Rattle.image.specs.Plane.{pixel, picture}
-use Rattle.imgproc.specs.declared.reading.ReadingConfig.{ReadingConfig}
-use Rattle.imgproc.specs.declared.judging.Judgement.{Judgement}
-use Rattle.imgproc.specs.declared.judging.Judgement.the-variants.{Dark, Light, Skipped}
+use Rattle.imgproc.specs.declared.reading.config.ReadingConfig.{ReadingConfig}
+use Rattle.imgproc.specs.declared.reading.judging.Judgement.{Judgement}
+use Rattle.imgproc.specs.declared.reading.judging.Judgement.the-variants.{Dark, Light, Skipped}
 use Rattle.imgproc.specs.declared.morphology.Operation.the-variants.{Open, Close}
 use Rattle.imgproc.specs.declared.ImgProcError.the-variants.{InvalidKernel}
 use Rattle.imgproc.specs.declared.Check.the-variants.{Accepted}

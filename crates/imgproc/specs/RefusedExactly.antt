@@ -10,7 +10,7 @@ use Rattle.image.specs.RefusedExactly.{Exactly, differ, exactly}
 use Rattle.imgproc.specs.declared.ImgProcError.{ImgProcError}
 use Rattle.imgproc.specs.declared.Check.{Check}
 use Rattle.imgproc.specs.declared.Check.the-variants.{Accepted, Refused}
-use Rattle.imgproc.specs.declared.grid.TileThresholdGrid.{TileThresholdGrid}
+use Rattle.imgproc.specs.declared.grid.queries.TileThresholdGrid.{TileThresholdGrid}
 use Rattle.imgproc.specs.Refusals.{errorNumber, Conditions, first, answerBy}
 use Rattle.imgproc.specs.Calls.{Operator, Loan, Left, conditionsOf, Serves}
 use Rattle.imgproc.specs.GridCalls.{

@@ -7,7 +7,7 @@ use mathlib.Core.Logic.{_⊎_}
 use Prim.Native.Nat.{ℕ, _+_, _-_, _*_, _/_, _≤_, _<_, min}
 use lib.ListN.{length, getD}
 use Rattle.image.specs.Plane.{part}
-use Rattle.imgproc.specs.declared.tally.Tally.{Tally}
+use Rattle.imgproc.specs.declared.morphology.tally.Tally.{Tally}
 use Rattle.imgproc.specs.Tallies.{Raised, HasRoom}
 use Rattle.imgproc.specs.Extremes.{Extreme, Between}
 use Rattle.imgproc.specs.Reach.{low, high, radius, reachFrom, reachTo, walk, forwardAt, backwardAt, joinAt, lineWalks, rectWalks, sweepWalks}

@@ -3,7 +3,7 @@
 use Prim.Native.Nat.{ℕ, _+_, _^_, _≤_, _<_}
 use mathlib.Core.Path.{_≡_}
 use native.Mathlib.Omega.{arith}
-use Rattle.imgproc.specs.declared.tally.Tally.{Tally}
+use Rattle.imgproc.specs.declared.morphology.tally.Tally.{Tally}
 
 -- t′ is t with n comparisons more
 pub record Raised (t : Tally) (n : ℕ) (t′ : Tally) : Type 0 where

@@ -9,8 +9,8 @@ use lib.ListN.{length, getD}
 use Rattle.image.specs.declared.Geometry.{Geometry}
 use Rattle.image.specs.Plane.{tabulate, pixel}
 use Rattle.image.specs.Layout.{Kept, sideLimit, areaLimit}
-use Rattle.imgproc.specs.declared.grid.TileThresholdConfig.{TileThresholdConfig}
-use Rattle.imgproc.specs.declared.tiles.TileNumbers.{TileNumbers}
+use Rattle.imgproc.specs.declared.grid.config.TileThresholdConfig.{TileThresholdConfig}
+use Rattle.imgproc.specs.declared.grid.tiles.TileNumbers.{TileNumbers}
 use Rattle.imgproc.specs.Fold.{Box, bit, foldOver}
 use Rattle.imgproc.specs.Reach.{low, high}
 use Rattle.imgproc.specs.Sums.{sum, sumSquares, count}

@@ -1,11 +1,23 @@
-// The tile grid: a local threshold and a low-contrast mark for each tile of a picture, and questions to a grid.
+// The tile grid: a local threshold and a low-contrast mark for each tile of a picture, and queries about its tiles.
+pub(crate) mod base;
+pub(crate) mod bytes;
+pub mod config;
+pub mod queries;
+pub(crate) mod tiles;
+
+pub use config::SauvolaFloats;
+pub use config::TileThresholdConfig;
+pub use config::TileThresholdMethod;
+pub use queries::TileSkip;
+pub use queries::TileThreshold;
+pub use queries::TileThresholdGrid;
+
 use crate::Check;
 use crate::ImgProcError;
-use crate::base;
-use crate::query;
-use crate::query::TilePlace;
-use crate::surface;
-use crate::tiles;
+use crate::grid::bytes::write_skips;
+use crate::grid::bytes::write_thresholds;
+use crate::grid::tiles::gather;
+use crate::grid::tiles::tiles_along;
 use image::Geometry;
 use image::Layout;
 ghost use mathlib.Core.Path.{_≡_};
@@ -13,68 +25,14 @@ ghost use Prim.Native.Nat.{_*_, _≤_, _<_};
 ghost use lib.ListN.{length};
 ghost use Rattle.image.specs.Layout.{Kept, sideLimit};
 ghost use Rattle.imgproc.specs.Refusals.{first, _then_};
-ghost use Rattle.imgproc.specs.Grid.{gridDefaults, tilesLimit, thresholds, skips};
+ghost use Rattle.imgproc.specs.Grid.{tilesLimit, thresholds, skips};
 ghost use Rattle.imgproc.specs.Tiles.{Sized};
-ghost use Rattle.imgproc.specs.GridCalls.{usableMethod, gridSettings, tileCount, gridRoom, Rooms, Fills, Builds, builtAnswer, tileThresholdAnswer, tileSkipAnswer, thresholdAsked, skipAsked, rowSkipAsked};
-
-// The two settings of the grid's Sauvola threshold.
-pub struct SauvolaFloats {
-    pub k: f64,
-    pub dynamic_range: f64,
-}
-
-pub enum TileThresholdMethod {
-    Midrange,
-    Sauvola(SauvolaFloats),
-}
-
-pub struct TileThresholdConfig {
-    pub tile_width: usize,
-    pub tile_height: usize,
-    pub neighborhood_radius: usize,
-    pub threshold_offset: i16,
-    pub contrast_floor: u8,
-    pub method: TileThresholdMethod,
-}
-
-// A grid that was built: the picture's sides, the tile sides and the tile counts. Its bytes are lent to each question.
-pub struct TileThresholdGrid {
-    pub width: usize,
-    pub height: usize,
-    pub tile_width: usize,
-    pub tile_height: usize,
-    pub tiles_x: usize,
-    pub tiles_y: usize,
-}
+ghost use Rattle.imgproc.specs.GridCalls.{usableMethod, gridSettings, tileCount, gridRoom, Rooms, Fills, Builds, builtAnswer};
 
 // The tile counts, or the refusal.
 pub enum Built {
     Tiles(usize, usize),
     Refused(ImgProcError),
-}
-
-pub enum TileThreshold {
-    Value(u8),
-    Refused(ImgProcError),
-}
-
-pub enum TileSkip {
-    Is(bool),
-    Refused(ImgProcError),
-}
-
-// The settings that the published Rust has by default.
-pub fn default_config() -> TileThresholdConfig
-    ensures { λ r. ⌜ r ≡ gridDefaults ⌝ }
-{
-    TileThresholdConfig {
-        tile_width: 16,
-        tile_height: 16,
-        neighborhood_radius: 1,
-        threshold_offset: 0,
-        contrast_floor: 12,
-        method: TileThresholdMethod::Midrange,
-    }
 }
 
 fn usable_method(method: TileThresholdMethod) -> bool
@@ -136,8 +94,8 @@ fn check_build(
     let Check::Accepted = settings else {
         return settings;
     };
-    let tiles_x = tiles::tiles(geometry.width, config.tile_width);
-    let tiles_y = tiles::tiles(geometry.height, config.tile_height);
+    let tiles_x = tiles_along(geometry.width, config.tile_width);
+    let tiles_y = tiles_along(geometry.height, config.tile_height);
     check_room(tiles_x * tiles_y, room, threshold_room, skip_room)
 }
 
@@ -153,11 +111,11 @@ fn fill(
     requires { ⌜ Kept (length (now src)) geometry × Sized config (geometry .width) (geometry .height) × Rooms (tileCount config (geometry .width) (geometry .height)) (now workspace) (now thresholds) (now skips) ⌝ }
     ensures { λ _. ⌜ Fills (now (src .entry)) geometry config (now (workspace .entry)) (now (thresholds .entry)) (now (skips .entry)) (now (workspace .exit)) (now (thresholds .exit)) (now (skips .exit)) ⌝ }
 {
-    tiles::gather(src, geometry, config, workspace, 0);
+    gather(src, geometry, config, workspace, 0);
     let width = geometry.width;
     let height = geometry.height;
-    surface::write_thresholds(workspace, 0, width, height, config, thresholds, 0);
-    surface::write_skips(workspace, 0, width, height, config, skips, 0);
+    write_thresholds(workspace, 0, width, height, config, thresholds, 0);
+    write_skips(workspace, 0, width, height, config, skips, 0);
 }
 
 impl TileThresholdGrid {
@@ -195,41 +153,8 @@ impl TileThresholdGrid {
         }
         fill(src, g, config, workspace, thresholds, skips);
         Built::Tiles(
-            tiles::tiles(g.width, config.tile_width),
-            tiles::tiles(g.height, config.tile_height),
+            tiles_along(g.width, config.tile_width),
+            tiles_along(g.height, config.tile_height),
         )
-    }
-
-    // The stored threshold of the tile of pixel (x, y).
-    pub fn threshold_at(self, thresholds: &[u8], x: usize, y: usize) -> TileThreshold
-        ensures { λ r. ⌜ tileThresholdAnswer r ≡ thresholdAsked self (now (thresholds .entry)) x y ⌝ }
-    {
-        let place = query::pixel_place(self, thresholds.len(), x, y);
-        let TilePlace::At(i) = place else {
-            return TileThreshold::Refused(query::place_refusal(place));
-        };
-        TileThreshold::Value(thresholds[i])
-    }
-
-    // Whether the tile of pixel (x, y) is skipped.
-    pub fn is_skip(self, skips: &[u8], x: usize, y: usize) -> TileSkip
-        ensures { λ r. ⌜ tileSkipAnswer r ≡ skipAsked self (now (skips .entry)) x y ⌝ }
-    {
-        let place = query::pixel_place(self, skips.len(), x, y);
-        let TilePlace::At(i) = place else {
-            return TileSkip::Refused(query::place_refusal(place));
-        };
-        TileSkip::Is(skips[i] != 0)
-    }
-
-    // Whether every tile of the tile row of pixel row y is skipped.
-    pub fn row_all_skip(self, skips: &[u8], y: usize) -> TileSkip
-        ensures { λ r. ⌜ tileSkipAnswer r ≡ rowSkipAsked self (now (skips .entry)) y ⌝ }
-    {
-        let place = query::row_place(self, skips.len(), y);
-        let TilePlace::At(i) = place else {
-            return TileSkip::Refused(query::place_refusal(place));
-        };
-        TileSkip::Is(query::all_skipped(skips, i, self.tiles_x))
     }
 }

@@ -2,9 +2,9 @@
 use crate::Check;
 use crate::ImgProcError;
 use crate::morphology::Compared;
-use crate::rect::close_rect_into;
-use crate::tally::Tally;
-use crate::tally::start;
+use crate::morphology::rect::close_rect_into;
+use crate::morphology::tally::Tally;
+use crate::morphology::tally::start;
 use image::Geometry;
 use image::Layout;
 ghost use mathlib.Core.Path.{_≡_};

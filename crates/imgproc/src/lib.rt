@@ -1,19 +1,10 @@
 // Operators on grey pictures: what each refuses, by kind and by number.
-mod base;
 pub mod grid;
 pub mod illumination;
-pub mod judging;
 pub mod morphology;
-mod query;
 pub mod reading;
-mod rect;
 pub mod root;
-mod surface;
-mod sweeps;
-mod tables;
-pub mod tally;
 pub mod threshold;
-mod tiles;
 
 use image::Layout;
 use image::LumaError;

@@ -1,11 +1,15 @@
 // Erosion, dilation, opening and closing of grey pictures with an odd square kernel, from a strided source to a
 // strided destination.
+pub(crate) mod rect;
+mod sweeps;
+pub mod tally;
+
 use crate::ImgProcError;
-use crate::rect::close_rect_into;
-use crate::rect::morph_rect_into;
-use crate::rect::open_rect_into;
-use crate::tally::Tally;
-use crate::tally::start;
+use crate::morphology::rect::close_rect_into;
+use crate::morphology::rect::morph_rect_into;
+use crate::morphology::rect::open_rect_into;
+use crate::morphology::tally::Tally;
+use crate::morphology::tally::start;
 use image::Geometry;
 use image::Layout;
 ghost use Rattle.imgproc.specs.MorphologyCalls.{OperateReady, Operated, CountReady, Counts, RunReady, Runs, comparedAnswer, morphology, erosion, dilation, opening, closing};

@@ -1,16 +1,19 @@
 // The reading: a picture flattened and opened, its low-contrast tiles skipped, and every other pixel judged by its threshold.
+pub mod config;
+pub mod judging;
+
+pub use config::ReadingConfig;
+
 use crate::Check;
 use crate::ImgProcError;
-use crate::grid::TileThresholdConfig;
-use crate::illumination::BackgroundDivideConfig;
+use crate::grid::bytes::write_skips;
+use crate::grid::tiles::gather;
+use crate::grid::tiles::tiles_along;
 use crate::illumination::flatten;
-use crate::judging::judge_picture;
-use crate::rect::open_rect_into;
-use crate::surface;
-use crate::tally::Tally;
-use crate::tally::start;
-use crate::threshold::SauvolaConfig;
-use crate::tiles;
+use crate::morphology::rect::open_rect_into;
+use crate::morphology::tally::Tally;
+use crate::morphology::tally::start;
+use crate::reading::judging::judge_picture;
 use image::Geometry;
 use image::Layout;
 ghost use mathlib.Core.Path.{_≡_};
@@ -18,13 +21,6 @@ ghost use Rattle.imgproc.specs.Tiles.{Sized};
 ghost use Rattle.imgproc.specs.Reading.{Reads, readAnswer, readingSettings, readingRoom};
 ghost use Rattle.imgproc.specs.Refusals.{first};
 ghost use Rattle.imgproc.specs.ReadingSteps.{ReadReady, ReadDone, OpenReady, Opened, MarkReady, Marks};
-
-pub struct ReadingConfig {
-    pub division: BackgroundDivideConfig,
-    pub opening_kernel: usize,
-    pub grid: TileThresholdConfig,
-    pub sauvola: SauvolaConfig,
-}
 
 pub struct ReadingCounts {
     pub dark: u64,
@@ -69,8 +65,8 @@ fn mark_tiles(packed: Geometry, config: ReadingConfig, bytes: &mut [u8], words: 
     let height = packed.height;
     let plane = width * height;
     let grid = config.grid;
-    tiles::gather(&bytes[..plane], packed, grid, words, 0);
-    surface::write_skips(words, 0, width, height, grid, bytes, 9 * plane);
+    gather(&bytes[..plane], packed, grid, words, 0);
+    write_skips(words, 0, width, height, grid, bytes, 9 * plane);
 }
 
 // The work of an accepted reading: one tally, started at 0, through the closing and the opening.
@@ -136,7 +132,7 @@ pub(crate) fn check_room(
     let grid = config.grid;
     let width = geometry.width;
     let height = geometry.height;
-    let count = tiles::tiles(width, grid.tile_width) * tiles::tiles(height, grid.tile_height);
+    let count = tiles_along(width, grid.tile_width) * tiles_along(height, grid.tile_height);
     if bytes < 9 * (width * height) + 2 * count {
         return Check::Refused(ImgProcError::WorkspaceTooSmall);
     }

@@ -1,8 +1,10 @@
 // Sauvola's local threshold (Sauvola and Pietikäinen 2000) in whole numbers, from the summed-area tables of the picture.
+pub(crate) mod tables;
+
 use crate::Check;
 use crate::ImgProcError;
-use crate::tables::build_tables;
-use crate::tables::rect_sum;
+use crate::threshold::tables::build_tables;
+use crate::threshold::tables::rect_sum;
 use image::Geometry;
 use image::Layout;
 ghost use mathlib.Core.Path.{_≡_};

@@ -17,9 +17,9 @@ use Rattle.image.specs.Answers.{Answer}
 use Rattle.imgproc.specs.declared.ImgProcError.the-variants.{InvalidConfiguration}
 use Rattle.imgproc.specs.declared.Check.{Check}
 use Rattle.imgproc.specs.declared.Check.the-variants.{Refused}
-use Rattle.imgproc.specs.declared.grid.TileThresholdMethod.{TileThresholdMethod}
-use Rattle.imgproc.specs.declared.grid.TileThresholdMethod.the-variants.{Sauvola}
-use Rattle.imgproc.specs.declared.grid.TileThresholdConfig.{TileThresholdConfig}
+use Rattle.imgproc.specs.declared.grid.config.TileThresholdMethod.{TileThresholdMethod}
+use Rattle.imgproc.specs.declared.grid.config.TileThresholdMethod.the-variants.{Sauvola}
+use Rattle.imgproc.specs.declared.grid.config.TileThresholdConfig.{TileThresholdConfig}
 use Rattle.imgproc.specs.Grid.{nought}
 use Rattle.imgproc.specs.GridCalls.{
   gridSettings,

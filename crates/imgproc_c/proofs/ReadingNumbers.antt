@@ -13,7 +13,7 @@ use Rattle.image.specs.Answers.{Answer}
 use Rattle.imgproc.specs.declared.ImgProcError.the-variants.{InvalidKernel}
 use Rattle.imgproc.specs.declared.Check.{Check}
 use Rattle.imgproc.specs.declared.illumination.BackgroundDivideConfig.{BackgroundDivideConfig}
-use Rattle.imgproc.specs.declared.grid.TileThresholdMethod.{TileThresholdMethod}
+use Rattle.imgproc.specs.declared.grid.config.TileThresholdMethod.{TileThresholdMethod}
 use Rattle.imgproc.specs.declared.threshold.SauvolaConfig.{SauvolaConfig}
 use Rattle.imgproc.specs.GridCalls.{gridSettings}
 use Rattle.imgproc.specs.Reading.{

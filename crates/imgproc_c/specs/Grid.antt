@@ -5,10 +5,10 @@ use lib.IntN.{ℤ}
 use lib.Ieee.{Float}
 use Rattle.image.specs.Answers.{Answer}
 use Rattle.imgproc.specs.declared.ImgProcError.the-variants.{InvalidConfiguration}
-use Rattle.imgproc.specs.declared.grid.TileThresholdMethod.{TileThresholdMethod}
-use Rattle.imgproc.specs.declared.grid.TileThresholdMethod.the-variants.{Midrange, Sauvola}
-use Rattle.imgproc.specs.declared.grid.TileThresholdConfig.{TileThresholdConfig}
-use Rattle.imgproc.specs.declared.grid.TileThresholdGrid.{TileThresholdGrid}
+use Rattle.imgproc.specs.declared.grid.config.TileThresholdMethod.{TileThresholdMethod}
+use Rattle.imgproc.specs.declared.grid.config.TileThresholdMethod.the-variants.{Midrange, Sauvola}
+use Rattle.imgproc.specs.declared.grid.config.TileThresholdConfig.{TileThresholdConfig}
+use Rattle.imgproc.specs.declared.grid.queries.TileThresholdGrid.{TileThresholdGrid}
 use Rattle.imgproc.specs.Grid.{nought}
 use Rattle.imgproc.specs.GridCalls.{gridSettings, BuildLent, BuildLeft, TileCounts, tilesFrom, buildConditionsBy, BuildsBy}
 use Rattle.imgproc.specs.Refusals.{Conditions, first, _then_, refusedIf, answerBy}

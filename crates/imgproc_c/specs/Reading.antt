@@ -3,9 +3,9 @@ use Prim.Native.Nat.{ℕ}
 use Rattle.image.specs.Answers.{Answer}
 use Rattle.imgproc.specs.declared.ImgProcError.the-variants.{InvalidKernel}
 use Rattle.imgproc.specs.declared.illumination.BackgroundDivideConfig.{BackgroundDivideConfig}
-use Rattle.imgproc.specs.declared.grid.TileThresholdConfig.{TileThresholdConfig}
+use Rattle.imgproc.specs.declared.grid.config.TileThresholdConfig.{TileThresholdConfig}
 use Rattle.imgproc.specs.declared.threshold.SauvolaConfig.{SauvolaConfig}
-use Rattle.imgproc.specs.declared.reading.ReadingConfig.{ReadingConfig}
+use Rattle.imgproc.specs.declared.reading.config.ReadingConfig.{ReadingConfig}
 use Rattle.imgproc.specs.GridCalls.{gridSettings}
 use Rattle.imgproc.specs.Reading.{ReadingLent, ReadingLeft, ReadingNumbers, numbersFrom, readingConditionsBy, ReadsBy}
 use Rattle.imgproc.specs.Refusals.{Conditions, first, _then_, refusedIf, answerBy, badKernel, divisionSettings, sauvolaSettings}

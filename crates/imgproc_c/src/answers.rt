@@ -4,7 +4,7 @@ use imgproc::grid::TileSkip;
 use imgproc::grid::TileThreshold;
 use imgproc::morphology::Compared;
 use imgproc::reading::Read;
-use imgproc::tally;
+use imgproc::morphology::tally;
 ghost use Rattle.imgproc.specs.MorphologyCalls.{comparedAnswer};
 ghost use Rattle.imgproc.specs.GridCalls.{builtAnswer, tileThresholdAnswer, tileSkipAnswer};
 ghost use Rattle.imgproc.specs.Reading.{readAnswer};

@@ -9,7 +9,7 @@ use imgproc::grid::TileThreshold;
 use imgproc::morphology::Compared;
 use imgproc::reading::Read;
 use imgproc::reading::ReadingCounts;
-use imgproc::tally;
+use imgproc::morphology::tally;
 use imgproc::threshold::Binarized;
 
 pub type Answer = [usize; 5];

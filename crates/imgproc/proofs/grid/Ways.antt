@@ -10,7 +10,7 @@ use borrow.Author.Tests.{ltb-false, eqb-false}
 use Rattle.image.specs.LayoutLaws.{neither}
 use Rattle.imgproc.specs.declared.ImgProcError.the-variants.{InvalidConfiguration, WorkspaceTooSmall, GridBufferTooSmall}
 use Rattle.imgproc.specs.declared.Check.the-variants.{Accepted}
-use Rattle.imgproc.specs.declared.grid.TileThresholdConfig.{TileThresholdConfig}
+use Rattle.imgproc.specs.declared.grid.config.TileThresholdConfig.{TileThresholdConfig}
 use Rattle.imgproc.specs.GridCalls.{usableMethod, gridSettings, gridRoom, Rooms}
 use Rattle.imgproc.specs.Refusals.{first, refusedIf}
 use Rattle.imgproc.specs.RefusalLaws.{both-accepted, not-refused}

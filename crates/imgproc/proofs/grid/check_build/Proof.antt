@@ -7,7 +7,7 @@ use Rattle.imgproc.specs.Refusals.{first}
 use Rattle.imgproc.specs.Tiles.{Sized}
 use Rattle.imgproc.specs.RefusalLaws.{then-accepted, then-refused}
 use Rattle.imgproc.proofs.grid.Ways.{sides-taken}
-use Rattle.imgproc.proofs.tiles.Counts.{few, total}
+use Rattle.imgproc.proofs.grid.tiles.Counts.{few, total}
 use borrow.Author.Needs.{needs}
 use Rattle.imgproc.proofs.grid.check_build.Statement.{statement}
 use Rattle.imgproc.proofs.grid.check_build.Tie as tie
@@ -35,17 +35,17 @@ sized c =
     let d = sides-taken (s .args .config) (sym (c .before .before .check-settings .ensures) ∙ c .enum-told .given .1) in
     record { wide = s .pre .0; high = s .pre .2; small-width = s .pre .1; small-height = s .pre .3; tile-width = d .0; tile-height = d .1 }
 
-tiles-requires : tie.Need-tiles-requires
-tiles-requires c κs = sized c .tile-width
+tiles-along-requires : tie.Need-tiles-along-requires
+tiles-along-requires c κs = sized c .tile-width
 
-tiles-requires-2 : tie.Need-tiles-requires-2
-tiles-requires-2 c κs = sized (c .before) .tile-height
+tiles-along-requires-2 : tie.Need-tiles-along-requires-2
+tiles-along-requires-2 c κs = sized (c .before) .tile-height
 
 mul-check-room : tie.Need-mul-check-room
-mul-check-room c = omega (arith, few (sized (c .before .before)) (c .before .tiles .ensures) (c .tiles2 .ensures))
+mul-check-room c = omega (arith, few (sized (c .before .before)) (c .before .tiles-along .ensures) (c .tiles-along2 .ensures))
 
 check-room-requires : tie.Need-check-room-requires
-check-room-requires c κs = few (sized (c .before .before)) (c .before .tiles .ensures) (c .tiles2 .ensures)
+check-room-requires c κs = few (sized (c .before .before)) (c .before .tiles-along .ensures) (c .tiles-along2 .ensures)
 
 returns-2 : tie.Need-returns-2
 returns-2 c =
@@ -53,7 +53,7 @@ returns-2 c =
     let s = k .before .before in
     let a = s .before .args in
     c .check-room .ensures
-    ∙ ap (λ (n : ℕ). first (gridRoom n (a .room) (a .threshold-room) (a .skip-room))) (total (sized k) (c .before .before .tiles .ensures) (c .before .tiles2 .ensures))
+    ∙ ap (λ (n : ℕ). first (gridRoom n (a .room) (a .threshold-room) (a .skip-room))) (total (sized k) (c .before .before .tiles-along .ensures) (c .before .tiles-along2 .ensures))
     ∙ sym (then-accepted (gridSettings (a .config)) (gridRoom (tileCount (a .config) (a .geometry .width) (a .geometry .height)) (a .room) (a .threshold-room) (a .skip-room)) (sym (s .check-settings .ensures) ∙ k .enum-told .given .1))
 
 pub check-build-spec : {M : Type 1} → statement M
@@ -64,8 +64,8 @@ check-build-spec =
     enum-told
     enum-told-2
     returns
-    tiles-requires
-    tiles-requires-2
+    tiles-along-requires
+    tiles-along-requires-2
     mul-check-room
     check-room-requires
     returns-2)

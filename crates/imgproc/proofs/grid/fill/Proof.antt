@@ -4,7 +4,7 @@ use mathlib.Core.List.{List}
 use Prim.Native.Nat.{ℕ}
 use native.Mathlib.Omega.{arith}
 use Rattle.image.specs.Plane.{overwritten}
-use Rattle.imgproc.proofs.surface.Tables.{thresholds-are, skips-are}
+use Rattle.imgproc.proofs.grid.bytes.Tables.{thresholds-are, skips-are}
 use borrow.Author.Needs.{needs}
 use Rattle.imgproc.proofs.grid.fill.Statement.{statement}
 use Rattle.imgproc.proofs.grid.fill.Tie as tie

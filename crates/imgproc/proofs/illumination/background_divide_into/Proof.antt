@@ -12,7 +12,7 @@ use Rattle.imgproc.specs.RefusalLaws.{then-accepted, division-says}
 use Rattle.imgproc.specs.declared.ImgProcError.the-variants.{Image, DimensionMismatch, WorkspaceTooSmall}
 use Rattle.imgproc.proofs.WaysOut.{Pair, pair-of, source-kept, target-kept, ways}
 use Rattle.imgproc.proofs.Serving.{refused-call, served}
-use Rattle.imgproc.proofs.MorphologyWays.{room-short, room-enough}
+use Rattle.imgproc.proofs.morphology.Ways.{room-short, room-enough}
 use Rattle.imgproc.proofs.illumination.background_divide_into.Statement.{statement}
 use Rattle.imgproc.proofs.illumination.background_divide_into.Tie as tie
 

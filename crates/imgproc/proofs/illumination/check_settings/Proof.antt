@@ -1,5 +1,5 @@
 -- Each way out of the settings is one law. Assumes nothing.
-use Rattle.imgproc.proofs.DivisionRuns.{element-small, element-even, no-floor, settings-good}
+use Rattle.imgproc.proofs.illumination.Runs.{element-small, element-even, no-floor, settings-good}
 use Rattle.imgproc.proofs.illumination.check_settings.Statement.{statement}
 use Rattle.imgproc.proofs.illumination.check_settings.Tie as tie
 

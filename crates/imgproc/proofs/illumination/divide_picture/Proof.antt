@@ -1,7 +1,7 @@
 -- `divide_picture` flattens with a tally of its own and paints; the copy is never refused. Assumes nothing.
 use borrow.Author.Needs.{needs}
 use denote.Ref.{now}
-use Rattle.imgproc.proofs.DivisionRuns.{flatten-ready, picture-divided}
+use Rattle.imgproc.proofs.illumination.Runs.{flatten-ready, picture-divided}
 use Rattle.imgproc.proofs.illumination.divide_picture.Statement.{statement}
 use Rattle.imgproc.proofs.illumination.divide_picture.Tie as tie
 

@@ -2,7 +2,7 @@
 use Rattle.image.specs.Copy.{copiedAnswer}
 use borrow.Author.Needs.{needs}
 use denote.Ref.{now}
-use Rattle.imgproc.proofs.DivisionRuns.{close-ready, flattened}
+use Rattle.imgproc.proofs.illumination.Runs.{close-ready, flattened}
 use Rattle.imgproc.proofs.illumination.flatten.Statement.{statement}
 use Rattle.imgproc.proofs.illumination.flatten.Tie as tie
 

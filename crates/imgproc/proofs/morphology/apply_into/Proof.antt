@@ -8,7 +8,7 @@ use Rattle.image.specs.LayoutLaws.{area-small}
 use Rattle.imgproc.specs.declared.ImgProcError.the-variants.{Image, DimensionMismatch, InvalidKernel, WorkspaceTooSmall}
 use Rattle.imgproc.proofs.WaysOut.{Pair, pair-of, source-kept, target-kept, ways}
 use Rattle.imgproc.proofs.Serving.{refused-call, served}
-use Rattle.imgproc.proofs.MorphologyWays.{kernel-good, room-enough, kernel-ways}
+use Rattle.imgproc.proofs.morphology.Ways.{kernel-good, room-enough, kernel-ways}
 use Rattle.imgproc.proofs.morphology.apply_into.Statement.{statement}
 use Rattle.imgproc.proofs.morphology.apply_into.Tie as tie
 

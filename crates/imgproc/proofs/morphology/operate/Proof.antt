@@ -1,6 +1,6 @@
 -- `operate` meets its contract: each operation is its own sweeps. Assumes nothing.
 use native.Mathlib.Omega.{arith}
-use Rattle.imgproc.proofs.MorphologyRuns.{once-ready, twice-ready}
+use Rattle.imgproc.proofs.morphology.Runs.{once-ready, twice-ready}
 use borrow.Author.Needs.{needs}
 use Rattle.imgproc.proofs.morphology.operate.Statement.{statement}
 use Rattle.imgproc.proofs.morphology.operate.Tie as tie

@@ -1,6 +1,6 @@
 -- `run` meets its contract: packed, operated on, painted; neither copy is refused. Assumes nothing.
 use native.Mathlib.Omega.{arith}
-use Rattle.imgproc.proofs.MorphologyRuns.{run-count-ready, run-runs}
+use Rattle.imgproc.proofs.morphology.Runs.{run-count-ready, run-runs}
 use Rattle.image.specs.Copy.{copiedAnswer}
 use borrow.Author.Needs.{needs}
 use Rattle.imgproc.proofs.morphology.run.Statement.{statement}

@@ -9,32 +9,32 @@ use Rattle.imgproc.specs.Grid.{tilesLimit}
 use Rattle.imgproc.specs.GridCalls.{tileCount}
 use Rattle.imgproc.specs.SauvolaLaws.{entries-small}
 use Rattle.imgproc.specs.Tables.{entriesLimit}
-use Rattle.imgproc.proofs.tiles.Counts.{total, few}
-use Rattle.imgproc.proofs.ReadingWays.{bytes-short, words-short, room-enough}
+use Rattle.imgproc.proofs.grid.tiles.Counts.{total, few}
+use Rattle.imgproc.proofs.reading.Ways.{bytes-short, words-short, room-enough}
 use Rattle.imgproc.proofs.reading.check_room.Statement.{statement}
 use Rattle.imgproc.proofs.reading.check_room.Tie as tie
 
-abbrev start : tie.After-tiles2 → tie.Start
+abbrev start : tie.After-tiles-along2 → tie.Start
 start t = t .before .before .before
 
-count : (t : tie.After-tiles2) → t .before .tiles .result * t .tiles2 .result ≡ tileCount (start t .args .config .grid) (start t .args .geometry .width) (start t .args .geometry .height)
-count t = total (start t .pre) (t .before .tiles .ensures) (t .tiles2 .ensures)
+count : (t : tie.After-tiles-along2) → t .before .tiles-along .result * t .tiles-along2 .result ≡ tileCount (start t .args .config .grid) (start t .args .geometry .width) (start t .args .geometry .height)
+count t = total (start t .pre) (t .before .tiles-along .ensures) (t .tiles-along2 .ensures)
 
 -- tiles, pixels and entries are within their limits
-tiles : (t : tie.After-tiles2) → t .before .tiles .result * t .tiles2 .result ≤ tilesLimit
-tiles t = few (start t .pre) (t .before .tiles .ensures) (t .tiles2 .ensures)
+tiles : (t : tie.After-tiles-along2) → t .before .tiles-along .result * t .tiles-along2 .result ≤ tilesLimit
+tiles t = few (start t .pre) (t .before .tiles-along .ensures) (t .tiles-along2 .ensures)
 
-area : (t : tie.After-tiles2) → start t .args .geometry .width * start t .args .geometry .height ≤ areaLimit
+area : (t : tie.After-tiles-along2) → start t .args .geometry .width * start t .args .geometry .height ≤ areaLimit
 area t = sides-small _ _ (start t .pre .small-width) (start t .pre .small-height)
 
-entries : (t : tie.After-tiles2) → (start t .args .geometry .width + 1) * (start t .args .geometry .height + 1) ≤ entriesLimit
+entries : (t : tie.After-tiles-along2) → (start t .args .geometry .width + 1) * (start t .args .geometry .height + 1) ≤ entriesLimit
 entries t = entries-small _ _ (start t .pre .small-width) (start t .pre .small-height)
 
-tiles-requires : tie.Need-tiles-requires
-tiles-requires c κs = search needs
+tiles-along-requires : tie.Need-tiles-along-requires
+tiles-along-requires c κs = search needs
 
-tiles-requires-2 : tie.Need-tiles-requires-2
-tiles-requires-2 c κs = search needs
+tiles-along-requires-2 : tie.Need-tiles-along-requires-2
+tiles-along-requires-2 c κs = search needs
 
 mul-count : tie.Need-mul-count
 mul-count t = omega (arith, tiles t)
@@ -82,8 +82,8 @@ pub check-room-spec : {M : Type 1} → statement M
 check-room-spec =
     tie.close
     (tie.spec
-    tiles-requires
-    tiles-requires-2
+    tiles-along-requires
+    tiles-along-requires-2
     mul-count
     mul-if1
     mul-if1-2

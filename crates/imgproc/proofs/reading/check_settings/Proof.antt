@@ -2,12 +2,12 @@
 use borrow.Author.Needs.{needs}
 use mathlib.Core.Path.{sym, _∙_}
 use Rattle.imgproc.specs.declared.ImgProcError.the-variants.{InvalidKernel}
-use Rattle.imgproc.specs.declared.reading.ReadingConfig.{ReadingConfig}
+use Rattle.imgproc.specs.declared.reading.config.ReadingConfig.{ReadingConfig}
 use Rattle.imgproc.specs.Refusals.{Conditions, _then_, refusedIf, badKernel, divisionSettings, sauvolaSettings}
 use Rattle.imgproc.specs.Reading.{readingSettings}
 use Rattle.imgproc.specs.GridCalls.{gridSettings}
 use Rattle.imgproc.specs.RefusalLaws.{then-refused, then-accepted}
-use Rattle.imgproc.proofs.MorphologyWays.{kernel-small, kernel-even, kernel-good}
+use Rattle.imgproc.proofs.morphology.Ways.{kernel-small, kernel-even, kernel-good}
 use Rattle.imgproc.proofs.reading.check_settings.Statement.{statement}
 use Rattle.imgproc.proofs.reading.check_settings.Tie as tie
 

@@ -1,7 +1,7 @@
 -- `flatten_and_open` meets its contract: what the closing's tally hands back is what the opening is given. Assumes nothing.
 use borrow.Author.Needs.{needs}
 use denote.Ref.{now}
-use Rattle.imgproc.proofs.ReadingRuns.{flat-ready, open-ready, opened-is}
+use Rattle.imgproc.proofs.reading.Runs.{flat-ready, open-ready, opened-is}
 use Rattle.imgproc.proofs.reading.flatten_and_open.Statement.{statement}
 use Rattle.imgproc.proofs.reading.flatten_and_open.Tie as tie
 

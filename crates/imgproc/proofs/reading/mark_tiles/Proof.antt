@@ -3,7 +3,7 @@ use borrow.Author.Needs.{needs}
 use native.Mathlib.Omega.{arith}
 use mathlib.Core.Path.{sym}
 use denote.Ref.{now}
-use Rattle.imgproc.proofs.ReadingRuns.{prefix-long, prefix-kept, sized, marked}
+use Rattle.imgproc.proofs.reading.Runs.{prefix-long, prefix-kept, sized, marked}
 use Rattle.imgproc.proofs.reading.mark_tiles.Statement.{statement}
 use Rattle.imgproc.proofs.reading.mark_tiles.Tie as tie
 

@@ -2,7 +2,7 @@
 use borrow.Author.Needs.{needs}
 use mathlib.Core.Path.{sym}
 use denote.Ref.{now}
-use Rattle.imgproc.proofs.ReadingDone.{open-stage, mark-stage, judge-stage, read-done}
+use Rattle.imgproc.proofs.reading.Done.{open-stage, mark-stage, judge-stage, read-done}
 use Rattle.imgproc.proofs.reading.read_picture.Statement.{statement}
 use Rattle.imgproc.proofs.reading.read_picture.Tie as tie
 

@@ -5,7 +5,7 @@ use lib.ListN.{length}
 use denote.Ref.{now}
 use Rattle.imgproc.specs.declared.ImgProcError.the-variants.{Image, DimensionMismatch}
 use Rattle.imgproc.proofs.WaysOut.{Pair, pair-of, source-kept, target-kept, ways}
-use Rattle.imgproc.proofs.ReadingWays.{says, room-says, refused-call, done}
+use Rattle.imgproc.proofs.reading.Ways.{says, room-says, refused-call, done}
 use Rattle.imgproc.proofs.reading.reading.Statement.{statement}
 use Rattle.imgproc.proofs.reading.reading.Tie as tie
 

@@ -9,7 +9,7 @@ use denote.Ref.{now}
 use Rattle.image.specs.Plane.{picture}
 use Rattle.imgproc.specs.Sauvola.{binarised}
 use Rattle.image.specs.PaintRows.{RowsPainted, rows-start, rows-same, rows-done, row-fits, part-long, rows-next, row-within-as}
-use Rattle.imgproc.proofs.VerdictLaws.{binarised-pixel}
+use Rattle.imgproc.proofs.threshold.Verdicts.{binarised-pixel}
 use Rattle.imgproc.proofs.threshold.binarize_rows.Statement.{statement}
 use Rattle.imgproc.proofs.threshold.binarize_rows.Tie as tie
 

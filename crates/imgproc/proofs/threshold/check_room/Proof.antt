@@ -9,7 +9,7 @@ use Rattle.imgproc.specs.declared.Check.the-variants.{Accepted}
 use Rattle.imgproc.specs.Refusals.{Conditions, first, refusedIf, sauvolaSettings, tableEntries}
 use Rattle.imgproc.specs.RefusalLaws.{then-refused, then-accepted}
 use Rattle.imgproc.specs.SauvolaLaws.{entries-small}
-use Rattle.imgproc.proofs.MorphologyWays.{room-short, room-enough}
+use Rattle.imgproc.proofs.morphology.Ways.{room-short, room-enough}
 use Rattle.imgproc.proofs.threshold.check_room.Statement.{statement}
 use Rattle.imgproc.proofs.threshold.check_room.Tie as tie
 

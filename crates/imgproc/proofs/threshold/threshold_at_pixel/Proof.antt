@@ -3,7 +3,7 @@ use borrow.Author.Needs.{needs}
 use native.Mathlib.Omega.{arith}
 use mathlib.Core.Path.{_∙_}
 use denote.Ref.{now}
-use Rattle.imgproc.proofs.CornerLaws.{WindowSums, window-sums}
+use Rattle.imgproc.proofs.threshold.Corners.{WindowSums, window-sums}
 use Rattle.imgproc.proofs.threshold.threshold_at_pixel.Statement.{statement}
 use Rattle.imgproc.proofs.threshold.threshold_at_pixel.Tie as tie
 

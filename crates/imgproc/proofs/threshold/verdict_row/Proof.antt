@@ -8,7 +8,7 @@ use Rattle.image.specs.Plane.{picture}
 use Rattle.imgproc.specs.Sauvola.{verdict}
 use Rattle.imgproc.specs.Tables.{pixelsOf}
 use Rattle.image.specs.RowLaws.{row-long, row-picture}
-use Rattle.imgproc.proofs.VerdictLaws.{Filled, filled-none, filled-more, verdict-dark, verdict-light}
+use Rattle.imgproc.proofs.threshold.Verdicts.{Filled, filled-none, filled-more, verdict-dark, verdict-light}
 use Rattle.imgproc.proofs.threshold.verdict_row.Statement.{statement}
 use Rattle.imgproc.proofs.threshold.verdict_row.Tie as tie
 

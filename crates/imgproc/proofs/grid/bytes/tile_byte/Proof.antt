@@ -1,0 +1,31 @@
+-- `tile_byte` meets its contract. Assumes nothing.
+use mathlib.Core.Path.{sym, ap, _∙_}
+use Rattle.imgproc.specs.declared.grid.bytes.TileByte.{TileByte}
+use Rattle.imgproc.specs.TileBytes.{byteBy}
+use borrow.Author.Needs.{needs}
+use Rattle.imgproc.proofs.grid.bytes.tile_byte.Statement.{statement}
+use Rattle.imgproc.proofs.grid.bytes.tile_byte.Tie as tie
+
+enum-told : tie.Need-enum-told
+enum-told c = search needs
+
+threshold-requires : tie.Need-threshold-requires
+threshold-requires c κs = search needs
+
+enum-told-2 : tie.Need-enum-told-2
+enum-told-2 c = search needs
+
+skip-requires : tie.Need-skip-requires
+skip-requires c κs = search needs
+
+returns : tie.Need-returns
+returns c =
+    let a = c .before .before .before .args in c .threshold .ensures ∙ ap (λ (k : TileByte). byteBy k (a .config) (a .numbers)) (sym (c .before .enum-told .given .1))
+
+returns-2 : tie.Need-returns-2
+returns-2 c =
+    let a = c .before .before .before .args in c .skip .ensures ∙ ap (λ (k : TileByte). byteBy k (a .config) (a .numbers)) (sym (c .before .enum-told2 .given .1))
+
+pub tile-byte-spec : {M : Type 1} → statement M
+tile-byte-spec =
+    tie.close (tie.spec enum-told threshold-requires enum-told-2 skip-requires returns returns-2)

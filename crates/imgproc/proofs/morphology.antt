@@ -1,0 +1,4 @@
+-- Morphology: planes of the workspace, the work of an accepted call, and what its checks give. Assumes nothing.
+pub mod Planes
+pub mod Runs
+pub mod Ways

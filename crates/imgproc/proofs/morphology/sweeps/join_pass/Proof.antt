@@ -1,0 +1,127 @@
+-- `join_pass` meets its contract: it has come down to line y. Assumes nothing.
+use Prim.Native.Nat.{ℕ, _+_, _-_, _*_, _≤_}
+use native.Mathlib.Omega.{arith}
+use Rattle.imgproc.specs.Reach.{joinAt}
+use Rattle.imgproc.specs.Compared.{first}
+use Rattle.imgproc.specs.Sweeps.{lane, Joins}
+use Rattle.imgproc.proofs.morphology.sweeps.Lanes.{apart-within, line-order, Downward, down-none, down-room, down-fits, down-all}
+use Rattle.imgproc.proofs.morphology.sweeps.Passes.{join-line}
+use borrow.Author.Needs.{needs}
+use Rattle.imgproc.proofs.morphology.sweeps.join_pass.Statement.{statement}
+use Rattle.imgproc.proofs.morphology.sweeps.join_pass.Tie as tie
+
+abbrev Inv-loop : tie.InvT-loop
+Inv-loop ws₀ suffix prefix to kernel width height side radius t₀ y₀ at₀ ws t y at =
+    Downward (λ (x : ℕ). Joins (first side) kernel height (lane ws₀ suffix width x) (lane ws₀ prefix width x)) joinAt to width height y at ws₀ ws t₀ t
+
+abbrev μ-loop : tie.MeasureT-loop
+μ-loop ws₀ suffix prefix to kernel width height side radius t₀ y₀ at₀ ws t y at = height - y
+
+sub-radius : tie.Need-sub-radius Inv-loop μ-loop
+sub-radius c = search needs
+
+loop-holds : tie.Need-loop-holds Inv-loop μ-loop
+loop-holds c = down-none
+
+low-of-requires : tie.Need-low-of-requires Inv-loop μ-loop
+low-of-requires c κs = search needs
+
+-- the line at low, that at high, and the one that a turn writes, are within the plane
+lower : (c : tie.After-low-of Inv-loop μ-loop)
+    → let a = c .before .before .before .before .args in
+    c .low-of .result * a .width + a .width ≤ a .width * a .height
+lower c = let a = c .before .before .before .before .args in omega (arith, line-order (a .width) (c .low-of .result) (a .height) (omega arith))
+
+mul-low : tie.Need-mul-low Inv-loop μ-loop
+mul-low c = omega (arith, lower c)
+
+high-of-requires : tie.Need-high-of-requires Inv-loop μ-loop
+high-of-requires c κs = search needs
+
+upper : (c : tie.After-high-of Inv-loop μ-loop)
+    → let a = c .before .before .before .before .before .args in
+    c .high-of .result * a .width + a .width ≤ a .width * a .height
+upper c = let a = c .before .before .before .before .before .args in omega (arith, line-order (a .width) (c .high-of .result) (a .height) (omega arith))
+
+fits : (c : tie.In-loop Inv-loop μ-loop) → c .before .loop .at + c .before .before .before .args .width ≤ c .before .before .before .args .width * c .before .before .before .args .height
+fits c = down-fits (c .before .loop .inv) (c .loop-test .taken)
+
+mul-high : tie.Need-mul-high Inv-loop μ-loop
+mul-high c = omega (arith, upper c)
+
+add-meet-lanes : tie.Need-add-meet-lanes Inv-loop μ-loop
+add-meet-lanes c = omega (arith, lower (c .before .before))
+
+add-meet-lanes-2 : tie.Need-add-meet-lanes-2 Inv-loop μ-loop
+add-meet-lanes-2 c = omega (arith, upper (c .before))
+
+add-meet-lanes-3 : tie.Need-add-meet-lanes-3 Inv-loop μ-loop
+add-meet-lanes-3 c = omega (arith, fits (c .before .before .before))
+
+meet-lanes-requires : tie.Need-meet-lanes-requires Inv-loop μ-loop
+meet-lanes-requires c κs =
+    let in-loop = c .before .before .before in
+    let pre = in-loop .before .before .before .pre in
+    let l = lower (c .before .before) in
+    let u = upper (c .before) in
+    let f = fits in-loop in
+    let long = in-loop .before .loop .inv .lines .rest .long in
+    record {
+      left = omega arith;
+      right = omega arith;
+      target = omega arith;
+      left-apart = apart-within _ _ _ _ (pre .left-apart) (omega arith) (omega arith) (omega arith) (omega arith);
+      right-apart = apart-within _ _ _ _ (pre .right-apart) (omega arith) (omega arith) (omega arith) (omega arith);
+      room = down-room (pre .room) (in-loop .before .loop .inv) (in-loop .loop-test .taken);
+    }
+
+add-at : tie.Need-add-at Inv-loop μ-loop
+add-at c = omega (arith, fits (c .before .before .before .before .before .before))
+
+add-y : tie.Need-add-y Inv-loop μ-loop
+add-y c = search needs
+
+loop-less : tie.Need-loop-less Inv-loop μ-loop
+loop-less c = search needs
+
+loop-again : tie.Need-loop-again Inv-loop μ-loop
+loop-again c =
+    let called = c .before .before in
+    let highs = called .before .before in
+    let in-loop = highs .before .before in
+    let start = in-loop .before .before .before in
+    join-line (first (start .args .side)) _ _ _ _ _ _ (start .pre .left-apart) (start .pre .right-apart) _ _ (in-loop .before .loop .inv)
+    (in-loop .loop-test .taken)
+    (highs .before .low-of .ensures)
+    (highs .high-of .ensures)
+    (called .meet-lanes .ensures .row)
+    (called .meet-lanes .ensures .counted)
+
+same-length : tie.Need-same-length Inv-loop μ-loop
+same-length c = c .before .loop .inv .lines .rest .long
+
+returns : tie.Need-returns Inv-loop μ-loop
+returns c = down-all (c .before .loop .inv) (c .loop-test .left)
+
+pub join-pass-spec : {M : Type 1} → statement M
+join-pass-spec =
+    tie.close
+    (tie.spec
+    Inv-loop
+    μ-loop
+    sub-radius
+    loop-holds
+    low-of-requires
+    mul-low
+    high-of-requires
+    mul-high
+    add-meet-lanes
+    add-meet-lanes-2
+    add-meet-lanes-3
+    meet-lanes-requires
+    add-at
+    add-y
+    loop-less
+    loop-again
+    same-length
+    returns)

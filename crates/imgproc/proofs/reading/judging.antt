@@ -1,0 +1,2 @@
+-- The judgements: one pixel, a row, and the counts. Assumes nothing.
+pub mod Judgements

@@ -1,0 +1,206 @@
+// Erosion, dilation, opening and closing of packed planes of one lent workspace, at offsets: rows are swept, then
+// columns, each with its own kernel. Every comparison of samples is in `sweeps` and is counted. The cores carry the tally
+// by value, and one tally is lent to every sweep of an operation.
+use crate::morphology::sweeps::running_extremum_1d;
+use crate::morphology::sweeps::strip_of;
+use crate::morphology::sweeps::sweep_strip;
+use crate::morphology::tally::Tally;
+ghost use Rattle.imgproc.specs.Morphology.{opened, closed};
+ghost use Rattle.imgproc.specs.Sweeps.{SweepReady, RowsSwept, ColumnsSwept, MorphReady, Morphed, PairReady, PairMorphed, TwiceReady, TwiceMorphed};
+
+// The core of the sweep along each row, from one plane to another or back to the same, strip by strip.
+fn row_core(
+    tally: Tally,
+    ws: &mut [u8],
+    from: usize,
+    to: usize,
+    spare: usize,
+    kernel: usize,
+    width: usize,
+    height: usize,
+    side: bool,
+) -> Tally
+    requires { ⌜ SweepReady tally (now ws) from to spare kernel width height ⌝ }
+    ensures { λ r. ⌜ RowsSwept tally (now (ws .entry)) from to spare kernel width height side r (now (ws .exit)) ⌝ }
+{
+    let mut t = tally;
+    let mut y = 0;
+    while y < height {
+        let rows = strip_of(height - y);
+        let at = y * width;
+        t = sweep_strip(t, ws, from + at, to + at, spare, kernel, width, rows, side);
+        y += rows;
+    }
+    t
+}
+
+// The core of the sweep along each column, from one plane to another or back to the same.
+fn column_core(
+    tally: Tally,
+    ws: &mut [u8],
+    from: usize,
+    to: usize,
+    spare: usize,
+    kernel: usize,
+    width: usize,
+    height: usize,
+    side: bool,
+) -> Tally
+    requires { ⌜ SweepReady tally (now ws) from to spare kernel width height ⌝ }
+    ensures { λ r. ⌜ ColumnsSwept tally (now (ws .entry)) from to spare kernel width height side r (now (ws .exit)) ⌝ }
+{
+    running_extremum_1d(tally, ws, from, to, spare, kernel, width, height, side)
+}
+
+// The sweep along each row: the lent tally is raised by what the core counted.
+fn sweep_rows(
+    tally: &mut Tally,
+    ws: &mut [u8],
+    from: usize,
+    to: usize,
+    spare: usize,
+    kernel: usize,
+    width: usize,
+    height: usize,
+    side: bool,
+)
+    requires { ⌜ SweepReady (now tally) (now ws) from to spare kernel width height ⌝ }
+    ensures { λ _. ⌜ RowsSwept (now (tally .entry)) (now (ws .entry)) from to spare kernel width height side (now (tally .exit)) (now (ws .exit)) ⌝ }
+{
+    *tally = row_core(*tally, ws, from, to, spare, kernel, width, height, side);
+}
+
+// The sweep along each column: the lent tally is raised by what the core counted.
+fn sweep_columns(
+    tally: &mut Tally,
+    ws: &mut [u8],
+    from: usize,
+    to: usize,
+    spare: usize,
+    kernel: usize,
+    width: usize,
+    height: usize,
+    side: bool,
+)
+    requires { ⌜ SweepReady (now tally) (now ws) from to spare kernel width height ⌝ }
+    ensures { λ _. ⌜ ColumnsSwept (now (tally .entry)) (now (ws .entry)) from to spare kernel width height side (now (tally .exit)) (now (ws .exit)) ⌝ }
+{
+    *tally = column_core(*tally, ws, from, to, spare, kernel, width, height, side);
+}
+
+// Erosion where `side` is true, else dilation: along the rows with one kernel, then along the columns with another.
+// One tally is lent to both sweeps.
+pub(crate) fn morph_rect_into(
+    tally: Tally,
+    ws: &mut [u8],
+    from: usize,
+    to: usize,
+    spare: usize,
+    row_kernel: usize,
+    column_kernel: usize,
+    width: usize,
+    height: usize,
+    side: bool,
+) -> Tally
+    requires { ⌜ MorphReady tally (now ws) from to spare «row_kernel» «column_kernel» width height ⌝ }
+    ensures { λ r. ⌜ Morphed tally (now (ws .entry)) from to spare «row_kernel» «column_kernel» width height side r (now (ws .exit)) ⌝ }
+{
+    let mut t = tally;
+    sweep_rows(&mut t, ws, from, to, spare, row_kernel, width, height, side);
+    sweep_columns(
+        &mut t,
+        ws,
+        to,
+        to,
+        spare,
+        column_kernel,
+        width,
+        height,
+        side,
+    );
+    t
+}
+
+// An erosion or a dilation, then another of what it left, each by its side, with one kernel across and another down.
+// One tally is lent to all four sweeps.
+fn morph_rect_twice(
+    tally: Tally,
+    ws: &mut [u8],
+    from: usize,
+    to: usize,
+    spare: usize,
+    across: usize,
+    down: usize,
+    width: usize,
+    height: usize,
+    first: bool,
+    second: bool,
+) -> Tally
+    requires { ⌜ PairReady tally (now ws) from to spare across down width height ⌝ }
+    ensures { λ r. ⌜ PairMorphed tally (now (ws .entry)) from to spare across down width height first second r (now (ws .exit)) ⌝ }
+{
+    let mut t = tally;
+    sweep_rows(&mut t, ws, from, to, spare, across, width, height, first);
+    sweep_columns(&mut t, ws, to, to, spare, down, width, height, first);
+    sweep_rows(&mut t, ws, to, to, spare, across, width, height, second);
+    sweep_columns(&mut t, ws, to, to, spare, down, width, height, second);
+    t
+}
+
+// Opening: erosion, then dilation of what it left.
+pub(crate) fn open_rect_into(
+    tally: Tally,
+    ws: &mut [u8],
+    from: usize,
+    to: usize,
+    spare: usize,
+    kernel: usize,
+    width: usize,
+    height: usize,
+) -> Tally
+    requires { ⌜ TwiceReady tally (now ws) from to spare kernel width height ⌝ }
+    ensures { λ r. ⌜ TwiceMorphed opened tally (now (ws .entry)) from to spare kernel width height r (now (ws .exit)) ⌝ }
+{
+    morph_rect_twice(
+        tally,
+        ws,
+        from,
+        to,
+        spare,
+        kernel,
+        kernel,
+        width,
+        height,
+        true,
+        false,
+    )
+}
+
+// Closing: dilation, then erosion of what it left.
+pub(crate) fn close_rect_into(
+    tally: Tally,
+    ws: &mut [u8],
+    from: usize,
+    to: usize,
+    spare: usize,
+    kernel: usize,
+    width: usize,
+    height: usize,
+) -> Tally
+    requires { ⌜ TwiceReady tally (now ws) from to spare kernel width height ⌝ }
+    ensures { λ r. ⌜ TwiceMorphed closed tally (now (ws .entry)) from to spare kernel width height r (now (ws .exit)) ⌝ }
+{
+    morph_rect_twice(
+        tally,
+        ws,
+        from,
+        to,
+        spare,
+        kernel,
+        kernel,
+        width,
+        height,
+        false,
+        true,
+    )
+}

@@ -1,0 +1,246 @@
+// Sliding extremes along lines (van Herk; Gil and Werman), over planes of one lent workspace at offsets. A plane has
+// `height` lines of `width` lanes each, and every lane is swept at once, so that the inner loops are plain counted ones.
+use crate::morphology::tally::Met;
+use crate::morphology::tally::Tally;
+use crate::morphology::tally::chosen;
+use crate::morphology::tally::counted;
+use crate::morphology::tally::greater;
+use crate::morphology::tally::lesser;
+ghost use mathlib.Core.Path.{_≡_};
+ghost use Prim.Native.Nat.{_+_, _*_, _<_, _≤_};
+ghost use lib.ListN.{length, getD};
+ghost use Rattle.imgproc.specs.Reach.{low, high};
+ghost use Rattle.imgproc.specs.Tallies.{HasRoom};
+ghost use Rattle.imgproc.specs.Compared.{Compares, first};
+ghost use Rattle.imgproc.specs.Sweeps.{lane, Apart, Rowed, LanesReady, LanesMet, PassReady, JoinReady, ForwardPassed, BackwardPassed, JoinPassed, LinesReady, LinesSwept, TurnReady, Turned, SweepReady, RowsSwept};
+
+// The lesser of two samples where `side` is true, else the greater.
+fn extreme(tally: Tally, a: u8, b: u8, side: bool) -> Met
+    requires { ⌜ HasRoom tally 1 ⌝ }
+    ensures { λ r. ⌜ Compares (first side a b) tally r ⌝ }
+{
+    if side {
+        lesser(tally, a, b)
+    } else {
+        greater(tally, a, b)
+    }
+}
+
+// A row of lanes, copied.
+fn copy_lanes(ws: &mut [u8], from: usize, to: usize, lanes: usize)
+    requires { ⌜ (from + lanes ≤ length (now ws)) × (to + lanes ≤ length (now ws)) × Apart from lanes to lanes ⌝ }
+    ensures { λ _. ⌜ Rowed to lanes (λ x. getD (now (ws .entry)) (from + x) 0) (now (ws .entry)) (now (ws .exit)) ⌝ }
+{
+    let mut x = 0;
+    while x < lanes {
+        ws[to + x] = ws[from + x];
+        x += 1;
+    }
+}
+
+// A row of lanes at `to`: each holds the extreme of its samples at `a` and at `b`.
+fn meet_lanes(
+    tally: Tally,
+    ws: &mut [u8],
+    a: usize,
+    b: usize,
+    to: usize,
+    lanes: usize,
+    side: bool,
+) -> Tally
+    requires { ⌜ LanesReady tally (now ws) a b to lanes ⌝ }
+    ensures { λ r. ⌜ LanesMet tally (now (ws .entry)) a b to lanes side r (now (ws .exit)) ⌝ }
+{
+    let mut t = tally;
+    let mut x = 0;
+    while x < lanes {
+        let met = extreme(t, ws[a + x], ws[b + x], side);
+        t = counted(met);
+        ws[to + x] = chosen(met);
+        x += 1;
+    }
+    t
+}
+
+// Forward: each line meets the extreme so far of its block.
+fn forward_pass(
+    tally: Tally,
+    ws: &mut [u8],
+    from: usize,
+    to: usize,
+    kernel: usize,
+    width: usize,
+    height: usize,
+    side: bool,
+) -> Tally
+    requires { ⌜ PassReady tally (now ws) from to kernel width height ⌝ }
+    ensures { λ r. ⌜ ForwardPassed tally (now (ws .entry)) from to kernel width height side r (now (ws .exit)) ⌝ }
+{
+    let mut t = tally;
+    let mut next = 0;
+    let mut below = 0;
+    while next < height {
+        let y = next;
+        let at = below;
+        next += 1;
+        below += width;
+        if y % kernel == 0 {
+            copy_lanes(ws, from + at, to + at, width);
+        } else {
+            t = meet_lanes(t, ws, to + (at - width), from + at, to + at, width, side);
+        }
+    }
+    t
+}
+
+// Backward: each line meets the extreme of the rest of its block.
+fn backward_pass(
+    tally: Tally,
+    ws: &mut [u8],
+    from: usize,
+    to: usize,
+    kernel: usize,
+    width: usize,
+    height: usize,
+    side: bool,
+) -> Tally
+    requires { ⌜ PassReady tally (now ws) from to kernel width height ⌝ }
+    ensures { λ r. ⌜ BackwardPassed tally (now (ws .entry)) from to kernel width height side r (now (ws .exit)) ⌝ }
+{
+    let mut t = tally;
+    let mut y = height;
+    let mut at = width * height;
+    while 0 < y {
+        y -= 1;
+        at -= width;
+        if y % kernel == kernel - 1 || y == height - 1 {
+            copy_lanes(ws, from + at, to + at, width);
+        } else {
+            t = meet_lanes(t, ws, to + (at + width), from + at, to + at, width, side);
+        }
+    }
+    t
+}
+
+// low = max(0, i - r)
+fn low_of(i: usize, r: usize) -> usize
+    ensures { λ n. ⌜ n ≡ low r i ⌝ }
+{
+    if i < r { 0 } else { i - r }
+}
+
+// high = min(i + r, n - 1), in a line of n; i + r is never worked out where it is past the end
+fn high_of(i: usize, r: usize, n: usize) -> usize
+    requires { ⌜ i < n ⌝ }
+    ensures { λ m. ⌜ m ≡ high r n i ⌝ }
+{
+    if n - 1 - i < r { n - 1 } else { i + r }
+}
+
+// Joining: the backward extreme at low meets the forward one at high.
+fn join_pass(
+    tally: Tally,
+    ws: &mut [u8],
+    suffix: usize,
+    prefix: usize,
+    to: usize,
+    kernel: usize,
+    width: usize,
+    height: usize,
+    side: bool,
+) -> Tally
+    requires { ⌜ JoinReady tally (now ws) suffix prefix to kernel width height ⌝ }
+    ensures { λ r. ⌜ JoinPassed tally (now (ws .entry)) suffix prefix to kernel width height side r (now (ws .exit)) ⌝ }
+{
+    let radius = (kernel - 1) / 2;
+    let mut t = tally;
+    let mut y = 0;
+    let mut at = 0;
+    while y < height {
+        let low = low_of(y, radius) * width;
+        let high = high_of(y, radius, height) * width;
+        t = meet_lanes(t, ws, suffix + low, prefix + high, to + at, width, side);
+        at += width;
+        y += 1;
+    }
+    t
+}
+
+// The sliding extreme along each of `width` lanes of `height` samples, from one plane to another or back to the same.
+// The scratch holds the forward extremes, then the backward ones.
+pub(crate) fn running_extremum_1d(
+    tally: Tally,
+    ws: &mut [u8],
+    from: usize,
+    to: usize,
+    spare: usize,
+    kernel: usize,
+    width: usize,
+    height: usize,
+    side: bool,
+) -> Tally
+    requires { ⌜ LinesReady tally (now ws) from to spare kernel width height ⌝ }
+    ensures { λ r. ⌜ LinesSwept tally (now (ws .entry)) from to spare kernel width height side r (now (ws .exit)) ⌝ }
+{
+    let suffix = spare + width * height;
+    let a = forward_pass(tally, ws, from, spare, kernel, width, height, side);
+    let b = backward_pass(a, ws, from, suffix, kernel, width, height, side);
+    join_pass(b, ws, suffix, spare, to, kernel, width, height, side)
+}
+
+// Column x of a plane whose rows are `step` long, as a row of `count` samples.
+fn turn_column(ws: &mut [u8], from: usize, x: usize, step: usize, to: usize, count: usize)
+    requires { ⌜ (from + step * count ≤ length (now ws)) × (to + count ≤ length (now ws)) × (x < step) × Apart from (step * count) to count ⌝ }
+    ensures { λ _. ⌜ Rowed to count (λ y. lane (now (ws .entry)) from step x y) (now (ws .entry)) (now (ws .exit)) ⌝ }
+{
+    let mut y = 0;
+    while y < count {
+        ws[to + y] = ws[from + (y * step + x)];
+        y += 1;
+    }
+}
+
+// A plane of `rows` rows of `columns` samples, turned: its columns as the rows of another plane.
+fn turn(ws: &mut [u8], from: usize, to: usize, rows: usize, columns: usize)
+    requires { ⌜ TurnReady (now ws) from to rows columns ⌝ }
+    ensures { λ _. ⌜ Turned (now (ws .entry)) from to rows columns (now (ws .exit)) ⌝ }
+{
+    let mut x = 0;
+    while x < columns {
+        turn_column(ws, from, x, columns, to + x * rows, rows);
+        x += 1;
+    }
+}
+
+// Rows that are turned and swept together.
+const STRIP: usize = 32;
+
+// How many of the rows that are left make the next strip.
+pub(crate) fn strip_of(left: usize) -> usize
+    requires { ⌜ 0 < left ⌝ }
+    ensures { λ r. ⌜ (0 < r) × (r ≤ left) ⌝ }
+{
+    if left < STRIP { left } else { STRIP }
+}
+
+// The sweep along each row of a strip: its rows are turned to lanes, swept, and turned back.
+pub(crate) fn sweep_strip(
+    tally: Tally,
+    ws: &mut [u8],
+    from: usize,
+    to: usize,
+    spare: usize,
+    kernel: usize,
+    width: usize,
+    height: usize,
+    side: bool,
+) -> Tally
+    requires { ⌜ SweepReady tally (now ws) from to spare kernel width height ⌝ }
+    ensures { λ r. ⌜ RowsSwept tally (now (ws .entry)) from to spare kernel width height side r (now (ws .exit)) ⌝ }
+{
+    let lines = spare + width * height;
+    turn(ws, from, spare, height, width);
+    let t = running_extremum_1d(tally, ws, spare, spare, lines, kernel, height, width, side);
+    turn(ws, spare, to, width, height);
+    t
+}
