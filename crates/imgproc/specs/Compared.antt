@@ -12,11 +12,12 @@ pub record Compares (extreme : ℕ) (tally : Tally) (met : Met) : Type 0 where
   pub chosen : met .value ≡ extreme
   pub counted : Raised tally 1 (met .tally)
 
--- one sweep serves both orders: the side is true for the lesser of two samples and false for the greater
+-- one sweep serves both orders: `least` is true where it seeks the minimum and false where it seeks the maximum
 abbrev pub Before : Bool → ℕ → ℕ → Type 0
 Before true a b = Low a b
 Before false a b = High a b
 
-abbrev pub first : Bool → ℕ → ℕ → ℕ
-first true a b = min a b
-first false a b = max a b
+-- the extreme of two samples in that order
+abbrev pub extreme : Bool → ℕ → ℕ → ℕ
+extreme true a b = min a b
+extreme false a b = max a b

@@ -8,7 +8,7 @@ use Rattle.imgproc.specs.Reach.{reachFrom, reachTo, reachBox}
 -- at each pixel the extreme over the reach of x times the reach of y, with a kernel for the rows and one for the columns
 unfoldable pub sweptRect : (ℕ → ℕ → ℕ) → ℕ → ℕ → ℕ → ℕ → List ℕ → List ℕ
 unfolding foldBox reachFrom reachTo
-sweptRect op kx ky w h p = plane w h (λ x y. foldBox op (pixel p w) (reachBox kx ky w h x y))
+sweptRect op kw kh w h p = plane w h (λ x y. foldBox op (pixel p w) (reachBox kw kh w h x y))
 
 -- with the kernel k
 abbrev pub swept : (ℕ → ℕ → ℕ) → ℕ → ℕ → ℕ → List ℕ → List ℕ

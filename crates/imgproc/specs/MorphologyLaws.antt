@@ -36,29 +36,29 @@ reach-in k n i pos l = go (oneBlock k n i)
     go true = omega arith
     go false = omega arith
 
-pub length-swept : (op : ℕ → ℕ → ℕ) (kx ky w h : ℕ) (p : List ℕ) → length (sweptRect op kx ky w h p) ≡ w * h
+pub length-swept : (op : ℕ → ℕ → ℕ) (kw kh w h : ℕ) (p : List ℕ) → length (sweptRect op kw kh w h p) ≡ w * h
 unfolding sweptRect
-length-swept op kx ky w h p = length-plane w h (λ x y. foldBox op (pixel p w) (reachBox kx ky w h x y))
+length-swept op kw kh w h p = length-plane w h (λ x y. foldBox op (pixel p w) (reachBox kw kh w h x y))
 
-module _ {R : ℕ → ℕ → Type 0} {op : ℕ → ℕ → ℕ} (o : Order R op) (kx ky w h : ℕ) (X : 0 < kx) (Y : 0 < ky) (p : List ℕ) where
-  some : (x y : ℕ) → x < w → y < h → Some (reachBox kx ky w h x y)
-  some x y l m = record { across = reach-some kx w x X l; down = reach-some ky h y Y m }
+module _ {R : ℕ → ℕ → Type 0} {op : ℕ → ℕ → ℕ} (o : Order R op) (kw kh w h : ℕ) (X : 0 < kw) (Y : 0 < kh) (p : List ℕ) where
+  some : (x y : ℕ) → x < w → y < h → Some (reachBox kw kh w h x y)
+  some x y l m = record { across = reach-some kw w x X l; down = reach-some kh h y Y m }
 
   -- what erosion (`lowest`) and dilation (`highest`) are: at each pixel a bound of its reach that is attained there
   pub swept-extreme : (x y : ℕ) → x < w → y < h
-      → Extreme R (Inside (reachBox kx ky w h x y)) (λ q. pixel p w (q .0) (q .1)) (pixel (sweptRect op kx ky w h p) w x y)
+      → Extreme R (Inside (reachBox kw kh w h x y)) (λ q. pixel p w (q .0) (q .1)) (pixel (sweptRect op kw kh w h p) w x y)
   unfolding sweptRect
   swept-extreme x y l m =
-      rw (pixel-plane w h (λ x y. foldBox op (pixel p w) (reachBox kx ky w h x y)) x y l m) (fold-box-extreme o (pixel p w) (reachBox kx ky w h x y) (some x y l m))
+      rw (pixel-plane w h (λ x y. foldBox op (pixel p w) (reachBox kw kh w h x y)) x y l m) (fold-box-extreme o (pixel p w) (reachBox kw kh w h x y) (some x y l m))
 
   -- and nothing else is
   pub is-swept : (q : List ℕ) → 0 < w → length q ≡ w * h
-      → ((x y : ℕ) → x < w → y < h → Extreme R (Inside (reachBox kx ky w h x y)) (λ q. pixel p w (q .0) (q .1)) (pixel q w x y))
-      → q ≡ sweptRect op kx ky w h p
+      → ((x y : ℕ) → x < w → y < h → Extreme R (Inside (reachBox kw kh w h x y)) (λ q. pixel p w (q .0) (q .1)) (pixel q w x y))
+      → q ≡ sweptRect op kw kh w h p
   unfolding sweptRect
   is-swept q W l each =
-      is-plane w h (λ x y. foldBox op (pixel p w) (reachBox kx ky w h x y)) q W l
-      (λ x y a b. is-fold-box o (pixel p w) (reachBox kx ky w h x y) (some x y a b) (each x y a b))
+      is-plane w h (λ x y. foldBox op (pixel p w) (reachBox kw kh w h x y)) q W l
+      (λ x y a b. is-fold-box o (pixel p w) (reachBox kw kh w h x y) (some x y a b) (each x y a b))
 
 -- the comparisons of each call are R(k), or twice that
 pub operation-walks : (operation : Operation) (k w h : ℕ) → 0 < k

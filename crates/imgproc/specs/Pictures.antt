@@ -8,7 +8,7 @@ use Rattle.image.specs.Plane.{packed, painted}
 use Rattle.imgproc.specs.declared.illumination.BackgroundDivideConfig.{BackgroundDivideConfig}
 use Rattle.imgproc.specs.Cases.{Case, _gives_, wrong}
 use Rattle.imgproc.specs.Division.{divided}
-use Rattle.imgproc.specs.Sauvola.{thresholdAt, binarised}
+use Rattle.imgproc.specs.Sauvola.{thresholdAtPixel, binarized}
 use Rattle.imgproc.specs.Grid.{thresholds, skips}
 use Rattle.imgproc.specs.GridCalls.{badGrid, allSkipped}
 use Rattle.imgproc.specs.PicturesSauvola.{sauvolaPictures}
@@ -52,5 +52,5 @@ divisionPictures =
     []
 
 pub pictures-hold : wrong 1 (morphologyPictures ++ (divisionPictures ++ (sauvolaPictures ++ (gridPictures ++ readingPictures)))) ≡ []
-unfolding readingPictures readingOf marked morphologyPictures divisionPictures sauvolaPictures gridPictures thresholds skips ofBits lt badGrid allSkipped sweptRect walk R divided thresholdAt binarised packed painted
+unfolding readingPictures readingOf marked morphologyPictures divisionPictures sauvolaPictures gridPictures thresholds skips ofBits lt badGrid allSkipped sweptRect walk R divided thresholdAtPixel binarized packed painted
 pictures-hold = refl

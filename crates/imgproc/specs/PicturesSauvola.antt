@@ -5,13 +5,13 @@ use lib.ListN.{replicate}
 use Rattle.image.specs.declared.Geometry.{Geometry}
 use Rattle.image.specs.Plane.{plane, packed}
 use Rattle.imgproc.specs.declared.threshold.SauvolaConfig.{SauvolaConfig}
-use Rattle.imgproc.specs.Sauvola.{sauvolaDefaults, thresholdAt, binarised, binarisedInto}
+use Rattle.imgproc.specs.Sauvola.{sauvolaDefaults, thresholdAtPixel, binarized, binarizedInto}
 use Rattle.imgproc.specs.Cases.{Case, _gives_}
 
--- the thresholds of a packed picture
-abbrev pub thresholds : SauvolaConfig → ℕ → ℕ → List ℕ → List ℕ
-unfolding thresholdAt plane
-thresholds config w h p = plane w h (thresholdAt config w h p)
+-- the pixelThresholds of a packed picture
+abbrev pub pixelThresholds : SauvolaConfig → ℕ → ℕ → List ℕ → List ℕ
+unfolding thresholdAtPixel plane
+pixelThresholds config w h p = plane w h (thresholdAtPixel config w h p)
 
 -- the defaults with the radius r, and the values 7 and 9
 abbrev pub radiusOf : ℕ → SauvolaConfig
@@ -32,24 +32,24 @@ mixed =
 unfoldable pub sauvolaPictures : List Case
 sauvolaPictures =
     -- ★ one pixel 0 is dark, one pixel 1 light
-    (binarised sauvolaDefaults 1 1 (0 ∷ []) gives 0 ∷ []) ∷
-    (binarised sauvolaDefaults 1 1 (1 ∷ []) gives 255 ∷ []) ∷
+    (binarized sauvolaDefaults 1 1 (0 ∷ []) gives 0 ∷ []) ∷
+    (binarized sauvolaDefaults 1 1 (1 ∷ []) gives 255 ∷ []) ∷
     -- ★ row 0 200
-    (thresholds sauvolaDefaults 2 1 (0 ∷ 200 ∷ []) gives 95 ∷ 95 ∷ []) ∷
+    (pixelThresholds sauvolaDefaults 2 1 (0 ∷ 200 ∷ []) gives 95 ∷ 95 ∷ []) ∷
     -- ★ nine 255 and one 254, radius 9
-    (thresholds (radiusOf 9) 10 1 (255 ∷ 255 ∷ 255 ∷ 255 ∷ 255 ∷ 255 ∷ 255 ∷ 255 ∷ 255 ∷ 254 ∷ []) gives
+    (pixelThresholds (radiusOf 9) 10 1 (255 ∷ 255 ∷ 255 ∷ 255 ∷ 255 ∷ 255 ∷ 255 ∷ 255 ∷ 255 ∷ 254 ∷ []) gives
     211 ∷ 211 ∷ 211 ∷ 211 ∷ 211 ∷ 211 ∷ 211 ∷ 211 ∷ 211 ∷ 211 ∷ []) ∷
     -- the root of the variance 10200 is cut to 100; a threshold is no byte
-    (thresholds (record { radius = 8; «k_milli» = 1000; «dynamic_range» = 1; «dark_value» = 0; «light_value» = 255 }) 2 1 (0 ∷ 201 ∷ []) gives 10000 ∷ 10000 ∷ []) ∷
+    (pixelThresholds (record { radius = 8; «k_milli» = 1000; «dynamic_range» = 1; «dark_value» = 0; «light_value» = 255 }) 2 1 (0 ∷ 201 ∷ []) gives 10000 ∷ 10000 ∷ []) ∷
     -- windows of nine, six and four pixels
-    (thresholds (radiusOf 1) 3 4 (packed mixed 3 4 5) gives
+    (pixelThresholds (radiusOf 1) 3 4 (packed mixed 3 4 5) gives
     123 ∷ 96 ∷ 81 ∷
     96 ∷ 101 ∷ 97 ∷
     67 ∷ 92 ∷ 83 ∷
     27 ∷ 77 ∷ 97 ∷
     []) ∷
     -- the bytes, in a destination of stride 4 with a row and a byte after the last
-    (binarisedInto (radiusOf 1) mixed (geometry 3 4 5) (replicate 21 1) (geometry 3 4 4) gives
+    (binarizedInto (radiusOf 1) mixed (geometry 3 4 5) (replicate 21 1) (geometry 3 4 4) gives
     7 ∷ 9 ∷ 7 ∷ 1 ∷
     9 ∷ 7 ∷ 7 ∷ 1 ∷
     9 ∷ 7 ∷ 9 ∷ 1 ∷

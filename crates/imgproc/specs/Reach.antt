@@ -26,10 +26,10 @@ reachFrom k n i = cond (oneBlock k n i) (k * (low (radius k) i / k)) (low (radiu
 unfoldable pub reachTo : ℕ → ℕ → ℕ → ℕ
 reachTo k n i = cond (oneBlock k n i) (min (k * (low (radius k) i / k) + k - 1) (n - 1)) (high (radius k) n i)
 
--- the reach of x times the reach of y, with the kernel kx along the rows and ky along the columns
+-- the reach of x times the reach of y, with the kernel kw along the rows and kh along the columns
 abbrev pub reachBox : ℕ → ℕ → ℕ → ℕ → ℕ → ℕ → Box
-reachBox kx ky w h x y =
-    record { left = reachFrom kx w x; right = reachTo kx w x; top = reachFrom ky h y; bottom = reachTo ky h y }
+reachBox kw kh w h x y =
+    record { left = reachFrom kw w x; right = reachTo kw w x; top = reachFrom kh h y; bottom = reachTo kh h y }
 
 -- how many indices below n pass a test: a walk along the line
 unfoldable pub walk : (ℕ → Bool) → ℕ → ℕ
@@ -50,9 +50,9 @@ joinAt i = true
 abbrev pub lineWalks : ℕ → ℕ → ℕ
 lineWalks k n = walk (forwardAt k) n + walk (backwardAt k n) n + walk joinAt n
 
--- the sum of the walks of a sweep of each of h rows of w, with the kernel kx, and of each of w columns of h, with ky
+-- the sum of the walks of a sweep of each of h rows of w, with the kernel kw, and of each of w columns of h, with kh
 abbrev pub rectWalks : ℕ → ℕ → ℕ → ℕ → ℕ
-rectWalks kx ky w h = h * lineWalks kx w + w * lineWalks ky h
+rectWalks kw kh w h = h * lineWalks kw w + w * lineWalks kh h
 
 -- of an erosion or a dilation
 abbrev pub sweepWalks : ℕ → ℕ → ℕ → ℕ

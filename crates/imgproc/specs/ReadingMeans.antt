@@ -27,7 +27,7 @@ use Rattle.imgproc.specs.MorphologyLaws.{operation-walks}
 use Rattle.imgproc.specs.Grid.{skipOf}
 use Rattle.imgproc.specs.GridLaws.{floor-0}
 use Rattle.imgproc.specs.GridCalls.{gridSettings}
-use Rattle.imgproc.specs.Sauvola.{thresholdAt, atOrBelow}
+use Rattle.imgproc.specs.Sauvola.{thresholdAtPixel, atOrBelow}
 use Rattle.imgproc.specs.Reading.{
   isDark,
   isLight,
@@ -61,7 +61,7 @@ valueHere s w h p x y = pixel (openedOf s w h p) w x y
 
 -- the directly summed Sauvola threshold there
 abbrev pub thresholdHere : ReadingConfig → ℕ → ℕ → List ℕ → ℕ → ℕ → ℕ
-thresholdHere s w h p x y = thresholdAt (s .sauvola) w h (openedOf s w h p) x y
+thresholdHere s w h p x y = thresholdAtPixel (s .sauvola) w h (openedOf s w h p) x y
 
 -- the value is at most the threshold
 abbrev pub atMost : ReadingConfig → ℕ → ℕ → List ℕ → ℕ → ℕ → Bool

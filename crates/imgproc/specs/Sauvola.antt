@@ -47,15 +47,15 @@ unfolding spread
 threshold config S Q c = mean S c * scale config (spread S Q c) / 1000
 
 -- the threshold of pixel (x, y) of the packed picture p
-unfoldable pub thresholdAt : SauvolaConfig → ℕ → ℕ → List ℕ → ℕ → ℕ → ℕ
+unfoldable pub thresholdAtPixel : SauvolaConfig → ℕ → ℕ → List ℕ → ℕ → ℕ → ℕ
 unfolding threshold foldBox
-thresholdAt config w h p x y =
+thresholdAtPixel config w h p x y =
     let b = window (config .radius) w h x y in threshold config (sum (pixel p w) b) (sumSquares (pixel p w) b) (count b)
 
 -- a pixel at or below its threshold is dark
 unfoldable pub atOrBelow : SauvolaConfig → ℕ → ℕ → List ℕ → ℕ → ℕ → Bool
-unfolding thresholdAt
-atOrBelow config w h p x y = leb (pixel p w x y) (thresholdAt config w h p x y)
+unfolding thresholdAtPixel
+atOrBelow config w h p x y = leb (pixel p w x y) (thresholdAtPixel config w h p x y)
 
 -- the value that pixel (x, y) gets
 unfoldable pub verdict : SauvolaConfig → ℕ → ℕ → List ℕ → ℕ → ℕ → ℕ
@@ -63,9 +63,9 @@ unfolding atOrBelow
 verdict config w h p x y = cond (atOrBelow config w h p x y) (config .«dark_value») (config .«light_value»)
 
 -- the packed picture of the verdicts on the packed picture p
-unfoldable pub binarised : SauvolaConfig → ℕ → ℕ → List ℕ → List ℕ
+unfoldable pub binarized : SauvolaConfig → ℕ → ℕ → List ℕ → List ℕ
 unfolding verdict
-binarised config w h p = plane w h (verdict config w h p)
+binarized config w h p = plane w h (verdict config w h p)
 
 -- what `Binarized` says: a bare success, or the number of the refusal
 abbrev pub binarizedAnswer : Binarized → Answer Bare
@@ -73,10 +73,10 @@ binarizedAnswer Done = accepted bare
 binarizedAnswer (Binarized·Refused e) = refused (errorNumber e)
 
 -- the destination after an accepted call: its rows hold the verdicts on the source
-abbrev pub binarisedInto : SauvolaConfig → List ℕ → Geometry → List ℕ → Geometry → List ℕ
-binarisedInto config src g dst d =
-    painted (binarised config (g .width) (g .height) (picture src g)) (g .width) (g .height) (d .stride) dst
+abbrev pub binarizedInto : SauvolaConfig → List ℕ → Geometry → List ℕ → Geometry → List ℕ
+binarizedInto config src g dst d =
+    painted (binarized config (g .width) (g .height) (picture src g)) (g .width) (g .height) (d .stride) dst
 
 -- `sauvola_into`: its conditions, a bare success, and the verdicts
 abbrev pub sauvola : Operator SauvolaConfig Bare
-sauvola = record { own = settingsAndRoom; values = λ config w h. bare; make = binarised }
+sauvola = record { own = settingsAndRoom; values = λ config w h. bare; make = binarized }

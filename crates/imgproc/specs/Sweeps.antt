@@ -11,7 +11,7 @@ use Rattle.imgproc.specs.declared.morphology.tally.Tally.{Tally}
 use Rattle.imgproc.specs.Tallies.{Raised, HasRoom}
 use Rattle.imgproc.specs.Extremes.{Extreme, Between}
 use Rattle.imgproc.specs.Reach.{low, high, radius, reachFrom, reachTo, walk, forwardAt, backwardAt, joinAt, lineWalks, rectWalks, sweepWalks}
-use Rattle.imgproc.specs.Compared.{Before, first}
+use Rattle.imgproc.specs.Compared.{Before, extreme}
 use Rattle.imgproc.specs.Morphology.{sweptRect}
 
 -- the sample of lane x on line y of the plane at `at`
@@ -20,11 +20,11 @@ lane d at w x y = getD d (at + (y * w + x)) 0
 
 -- two stretches, m numbers from a on and n numbers from b on, that have none in common
 pub record Apart (a m b n : ℕ) : Type 0 where
-  pub sides : (a + m ≤ b) ⊎ (b + n ≤ a)
+  pub clear : (a + m ≤ b) ⊎ (b + n ≤ a)
 
 -- a place j outside the n numbers from `at` on
 pub record Off (at n j : ℕ) : Type 0 where
-  pub side : (j < at) ⊎ (at + n ≤ j)
+  pub off : (j < at) ⊎ (at + n ≤ j)
 
 -- d′ is d but for the n numbers from `at` on
 pub record Outside (at n : ℕ) (d d′ : List ℕ) : Type 0 where
@@ -66,8 +66,8 @@ pub record LanesReady (tally : Tally) (d : List ℕ) (a b to w : ℕ) : Type 0 w
   pub room : HasRoom tally w
 
 -- a row of lanes met: each lane holds the extreme of its two samples, one comparison each
-pub record LanesMet (tally : Tally) (d : List ℕ) (a b to w : ℕ) (side : Bool) (raised : Tally) (d′ : List ℕ) : Type 0 where
-  pub row : Rowed to w (λ x. first side (getD d (a + x) 0) (getD d (b + x) 0)) d d′
+pub record LanesMet (tally : Tally) (d : List ℕ) (a b to w : ℕ) (least : Bool) (raised : Tally) (d′ : List ℕ) : Type 0 where
+  pub row : Rowed to w (λ x. extreme least (getD d (a + x) 0) (getD d (b + x) 0)) d d′
   pub counted : Raised tally w raised
 
 -- what a forward or backward pass asks
@@ -96,13 +96,13 @@ pub record Passed (P : ℕ → ℕ → ℕ → Type 0) (test : ℕ → Bool) (ta
 
 -- the three passes
 abbrev pub ForwardPassed : Tally → List ℕ → ℕ → ℕ → ℕ → ℕ → ℕ → Bool → Tally → List ℕ → Type 0
-ForwardPassed tally d from to k w h side raised d′ = Passed (λ x. Forwards (Before side) k (lane d from w x)) (forwardAt k) tally d to w h raised d′
+ForwardPassed tally d from to k w h least raised d′ = Passed (λ x. Forwards (Before least) k (lane d from w x)) (forwardAt k) tally d to w h raised d′
 
 abbrev pub BackwardPassed : Tally → List ℕ → ℕ → ℕ → ℕ → ℕ → ℕ → Bool → Tally → List ℕ → Type 0
-BackwardPassed tally d from to k w h side raised d′ = Passed (λ x. Backwards (Before side) k h (lane d from w x)) (backwardAt k h) tally d to w h raised d′
+BackwardPassed tally d from to k w h least raised d′ = Passed (λ x. Backwards (Before least) k h (lane d from w x)) (backwardAt k h) tally d to w h raised d′
 
 abbrev pub JoinPassed : Tally → List ℕ → ℕ → ℕ → ℕ → ℕ → ℕ → ℕ → Bool → Tally → List ℕ → Type 0
-JoinPassed tally d suffix prefix to k w h side raised d′ = Passed (λ x. Joins (first side) k h (lane d suffix w x) (lane d prefix w x)) joinAt tally d to w h raised d′
+JoinPassed tally d suffix prefix to k w h least raised d′ = Passed (λ x. Joins (extreme least) k h (lane d suffix w x) (lane d prefix w x)) joinAt tally d to w h raised d′
 
 -- what a sweep of lanes side by side asks: the planes and 2wh of scratch in the workspace, the scratch apart from both planes, and room in the tally
 pub record LinesReady (tally : Tally) (d : List ℕ) (from to spare k w h : ℕ) : Type 0 where
@@ -115,8 +115,8 @@ pub record LinesReady (tally : Tally) (d : List ℕ) (from to spare k w h : ℕ)
   pub room : HasRoom tally (3 * (w * h))
 
 -- each of w lanes of h samples swept: at each sample the extreme of its reach, the walks of each lane counted, and nothing changed but the plane at `to` and the scratch
-pub record LinesSwept (tally : Tally) (d : List ℕ) (from to spare k w h : ℕ) (side : Bool) (raised : Tally) (d′ : List ℕ) : Type 0 where
-  pub each : (x y : ℕ) → x < w → y < h → Reached (Before side) k h (lane d from w x) y (lane d′ to w x y)
+pub record LinesSwept (tally : Tally) (d : List ℕ) (from to spare k w h : ℕ) (least : Bool) (raised : Tally) (d′ : List ℕ) : Type 0 where
+  pub each : (x y : ℕ) → x < w → y < h → Reached (Before least) k h (lane d from w x) y (lane d′ to w x y)
   pub counted : Raised tally (w * lineWalks k h) raised
   pub kept : Spared to (w * h) spare (2 * (w * h)) d d′
 
@@ -132,39 +132,39 @@ pub record SweepReady (tally : Tally) (d : List ℕ) (from to spare k w h : ℕ)
   pub room : HasRoom tally (3 * (w * h))
 
 -- each of h rows of w swept
-pub record RowsSwept (tally : Tally) (d : List ℕ) (from to spare k w h : ℕ) (side : Bool) (raised : Tally) (d′ : List ℕ) : Type 0 where
-  pub each : (x y : ℕ) → x < w → y < h → Reached (Before side) k w (λ i. lane d from w i y) x (lane d′ to w x y)
+pub record RowsSwept (tally : Tally) (d : List ℕ) (from to spare k w h : ℕ) (least : Bool) (raised : Tally) (d′ : List ℕ) : Type 0 where
+  pub each : (x y : ℕ) → x < w → y < h → Reached (Before least) k w (λ i. lane d from w i y) x (lane d′ to w x y)
   pub counted : Raised tally (h * lineWalks k w) raised
   pub kept : Spared to (w * h) spare (3 * (w * h)) d d′
 
 -- each of w columns of h swept
-pub record ColumnsSwept (tally : Tally) (d : List ℕ) (from to spare k w h : ℕ) (side : Bool) (raised : Tally) (d′ : List ℕ) : Type 0 where
-  pub each : (x y : ℕ) → x < w → y < h → Reached (Before side) k h (lane d from w x) y (lane d′ to w x y)
+pub record ColumnsSwept (tally : Tally) (d : List ℕ) (from to spare k w h : ℕ) (least : Bool) (raised : Tally) (d′ : List ℕ) : Type 0 where
+  pub each : (x y : ℕ) → x < w → y < h → Reached (Before least) k h (lane d from w x) y (lane d′ to w x y)
   pub counted : Raised tally (w * lineWalks k h) raised
   pub kept : Spared to (w * h) spare (3 * (w * h)) d d′
 
 -- what an erosion or a dilation asks: what its sweeps ask, and room in the tally for both
-pub record MorphReady (tally : Tally) (d : List ℕ) (from to spare kx ky w h : ℕ) : Type 0 where
-  pub rows : SweepReady tally d from to spare kx w h
-  pub columns : 0 < ky
+pub record MorphReady (tally : Tally) (d : List ℕ) (from to spare kw kh w h : ℕ) : Type 0 where
+  pub rows : SweepReady tally d from to spare kw w h
+  pub columns : 0 < kh
   pub wide : 0 < w
   pub room : HasRoom tally (6 * (w * h))
 
 -- an erosion or a dilation of the packed plane at `from`, left at `to`
-pub record Morphed (tally : Tally) (d : List ℕ) (from to spare kx ky w h : ℕ) (side : Bool) (raised : Tally) (d′ : List ℕ) : Type 0 where
-  pub leaves : part to (w * h) d′ ≡ sweptRect (first side) kx ky w h (part from (w * h) d)
-  pub counted : Raised tally (rectWalks kx ky w h) raised
+pub record Morphed (tally : Tally) (d : List ℕ) (from to spare kw kh w h : ℕ) (least : Bool) (raised : Tally) (d′ : List ℕ) : Type 0 where
+  pub leaves : part to (w * h) d′ ≡ sweptRect (extreme least) kw kh w h (part from (w * h) d)
+  pub counted : Raised tally (rectWalks kw kh w h) raised
   pub kept : Spared to (w * h) spare (3 * (w * h)) d d′
 
 -- what two of them ask, the second of what the first left: what the first asks, and room in the tally for all four sweeps
-pub record PairReady (tally : Tally) (d : List ℕ) (from to spare kx ky w h : ℕ) : Type 0 where
-  pub once : MorphReady tally d from to spare kx ky w h
+pub record PairReady (tally : Tally) (d : List ℕ) (from to spare kw kh w h : ℕ) : Type 0 where
+  pub once : MorphReady tally d from to spare kw kh w h
   pub room : HasRoom tally (12 * (w * h))
 
 -- two of them, of the sides `one` and `two`, of the packed plane at `from`, left at `to`
-pub record PairMorphed (tally : Tally) (d : List ℕ) (from to spare kx ky w h : ℕ) (one two : Bool) (raised : Tally) (d′ : List ℕ) : Type 0 where
-  pub leaves : part to (w * h) d′ ≡ sweptRect (first two) kx ky w h (sweptRect (first one) kx ky w h (part from (w * h) d))
-  pub counted : Raised tally (2 * rectWalks kx ky w h) raised
+pub record PairMorphed (tally : Tally) (d : List ℕ) (from to spare kw kh w h : ℕ) (one two : Bool) (raised : Tally) (d′ : List ℕ) : Type 0 where
+  pub leaves : part to (w * h) d′ ≡ sweptRect (extreme two) kw kh w h (sweptRect (extreme one) kw kh w h (part from (w * h) d))
+  pub counted : Raised tally (2 * rectWalks kw kh w h) raised
   pub kept : Spared to (w * h) spare (3 * (w * h)) d d′
 
 -- what an opening or a closing asks

@@ -144,7 +144,7 @@ pub record SmallGrid (at tx ty : ℕ) (ws : List ℕ) : Type 0 where
   pub down : ty ≤ sideLimit
 
 -- the numbers of some picture
-pub record Filled (g : TileThresholdConfig) (w h at : ℕ) (ws : List ℕ) : Type 0 where
+pub record HoldsTiles (g : TileThresholdConfig) (w h at : ℕ) (ws : List ℕ) : Type 0 where
   pub picture : ℕ → ℕ → ℕ
   pub gathered : Gathered picture g w h at ws
 

@@ -15,11 +15,11 @@ ghost use Rattle.image.specs.Plane.{picture};
 ghost use Rattle.imgproc.specs.Refusals.{first, sauvolaSettings, settingsAndRoom, tableEntries};
 ghost use Rattle.imgproc.specs.WholeRoot.{wholeRoot};
 ghost use Rattle.imgproc.specs.Tables.{InRange, Ready, Sane};
-ghost use Rattle.imgproc.specs.Sauvola.{sauvolaDefaults, binarizedAnswer, spread, threshold, thresholdAt, verdict, binarisedInto, sauvola};
+ghost use Rattle.imgproc.specs.Sauvola.{sauvolaDefaults, binarizedAnswer, spread, threshold, thresholdAtPixel, verdict, binarizedInto, sauvola};
 ghost use Rattle.imgproc.specs.Calls.{Serves};
 ghost use Rattle.image.specs.Answers.{answerNumber};
 
-// Settings of a binarisation. k is given in thousandths.
+// Settings of a binarization. k is given in thousandths.
 pub struct SauvolaConfig {
     pub radius: usize,
     pub k_milli: u32,
@@ -28,7 +28,7 @@ pub struct SauvolaConfig {
     pub light_value: u8,
 }
 
-// The answer of a binarisation.
+// The answer of a binarization.
 pub enum Binarized {
     Done,
     Refused(ImgProcError),
@@ -143,7 +143,7 @@ pub(crate) fn threshold_at_pixel(
     y: usize,
 ) -> u64
     requires { ⌜ Ready (now src) geometry (now workspace) at config × ((x < geometry .width) × (y < geometry .height)) ⌝ }
-    ensures { λ r. ⌜ r ≡ thresholdAt config (geometry .width) (geometry .height) (picture (now (src .entry)) geometry) x y ⌝ }
+    ensures { λ r. ⌜ r ≡ thresholdAtPixel config (geometry .width) (geometry .height) (picture (now (src .entry)) geometry) x y ⌝ }
 {
     let wide = geometry.width + 1;
     let squares = at + wide * (geometry.height + 1);
@@ -198,7 +198,7 @@ pub(crate) fn binarize_rows(
 )
     requires { ⌜ Ready (now src) geometry (now workspace) at config ⌝ }
     requires { ⌜ Kept (length (now dst)) «dst_geometry» × ((«dst_geometry» .width ≡ geometry .width) × («dst_geometry» .height ≡ geometry .height)) ⌝ }
-    ensures { λ _. ⌜ now (dst .exit) ≡ binarisedInto config (now (src .entry)) geometry (now (dst .entry)) «dst_geometry» ⌝ }
+    ensures { λ _. ⌜ now (dst .exit) ≡ binarizedInto config (now (src .entry)) geometry (now (dst .entry)) «dst_geometry» ⌝ }
 {
     let mut y = 0;
     while y < geometry.height {
@@ -251,13 +251,13 @@ fn binarize(
 )
     requires { ⌜ Kept (length (now src)) geometry × (Kept (length (now dst)) «dst_geometry» × ((«dst_geometry» .width ≡ geometry .width) × («dst_geometry» .height ≡ geometry .height))) ⌝ }
     requires { ⌜ InRange config × (tableEntries (geometry .width) (geometry .height) ≤ length (now workspace)) ⌝ }
-    ensures { λ _. ⌜ now (dst .exit) ≡ binarisedInto config (now (src .entry)) geometry (now (dst .entry)) «dst_geometry» ⌝ }
+    ensures { λ _. ⌜ now (dst .exit) ≡ binarizedInto config (now (src .entry)) geometry (now (dst .entry)) «dst_geometry» ⌝ }
 {
     build_tables(src, geometry, workspace, 0);
     binarize_rows(src, geometry, workspace, 0, dst, dst_geometry, config);
 }
 
-// Binarises a picture by Sauvola's threshold into the rows of the destination.
+// Binarizes a picture by Sauvola's threshold into the rows of the destination.
 pub fn sauvola_into(
     src: &[u8],
     src_geometry: Geometry,

@@ -24,9 +24,9 @@ once-ready p = record {
     source = omega (arith, p .fits);
     target = omega (arith, p .fits);
     scratch = omega (arith, p .fits);
-    source-apart = record { sides = inl (omega arith) };
-    target-apart = record { sides = inl (omega arith) };
-    planes = inr (record { sides = inl (omega arith) });
+    source-apart = record { clear = inl (omega arith) };
+    target-apart = record { clear = inl (omega arith) };
+    planes = inr (record { clear = inl (omega arith) });
     kernel = p .kernel;
     room = room-part (p .room) (omega arith);
   };

@@ -43,9 +43,9 @@ module _ (tally : Tally) (src : List ℕ) (g : Geometry) (s : ReadingConfig) (ws
             source = omega (arith, flat .long, ready .fits);
             target = omega (arith, flat .long, ready .fits);
             scratch = omega (arith, flat .long, ready .fits);
-            source-apart = record { sides = inl (omega arith) };
-            target-apart = record { sides = inl (omega arith) };
-            planes = inr (record { sides = inr (omega arith) });
+            source-apart = record { clear = inl (omega arith) };
+            target-apart = record { clear = inl (omega arith) };
+            planes = inr (record { clear = inr (omega arith) });
             kernel = ready .kernel;
             room = room-left (ready .room) (flat .counted) (omega arith);
           };

@@ -14,7 +14,7 @@ use Rattle.imgproc.specs.Fold.{Box, foldBox}
 use Rattle.imgproc.specs.Reach.{low, high}
 use Rattle.imgproc.specs.Sums.{squared, sum, sumSquares, count, boxSum, rectSum}
 use Rattle.imgproc.specs.SumLaws.{corners, fold-box-sum, count-is, box-le, mean-square}
-use Rattle.imgproc.specs.Sauvola.{window, threshold, thresholdAt}
+use Rattle.imgproc.specs.Sauvola.{window, threshold, thresholdAtPixel}
 use Rattle.imgproc.specs.SauvolaLaws.{window-some}
 use Rattle.imgproc.specs.Tables.{pixelsOf, Holds, Ready, entryAt, Corners, cornerSum, Sane}
 use Rattle.imgproc.proofs.threshold.tables.Entries.{entry, box-small, pixel-byte}
@@ -77,7 +77,7 @@ pub record WindowSums (d : List ℕ) (g : Geometry) (ws : List ℕ) (base : ℕ)
       (S Q : ℕ)
       → S ≡ cornerSum ws base (g .width + 1) x0 y0 x1 y1
       → Q ≡ cornerSum ws (base + (g .width + 1) * (g .height + 1)) (g .width + 1) x0 y0 x1 y1
-      → threshold config S Q ((x1 - x0) * (y1 - y0)) ≡ thresholdAt config (g .width) (g .height) (picture d g) x y
+      → threshold config S Q ((x1 - x0) * (y1 - y0)) ≡ thresholdAtPixel config (g .width) (g .height) (picture d g) x y
 
 -- the window of pixel (x, y), from x0 to x1 and from y0 to y1, the ends left out
 module _
@@ -146,8 +146,8 @@ module _
           let r2 : y1 - y0 ≡ box .bottom + 1 - box .top = span-long (config .radius) (g .height) y y0 y1 b q0 q1 in
           rw (r1, r2, p0, q0) (sym (fold-box-sum e box (window-some (config .radius) (g .width) (g .height) x y a b)))
 
-      same-threshold : threshold config S Q ((x1 - x0) * (y1 - y0)) ≡ thresholdAt config (g .width) (g .height) (picture d g) x y
-      unfolding thresholdAt f box
+      same-threshold : threshold config S Q ((x1 - x0) * (y1 - y0)) ≡ thresholdAtPixel config (g .width) (g .height) (picture d g) x y
+      unfolding thresholdAtPixel f box
       same-threshold =
           let S′ : S ≡ sum f box = S-is ∙ window-sum f in
           let Q′ : Q ≡ sumSquares f box = Q-is ∙ window-sum (squared f) in

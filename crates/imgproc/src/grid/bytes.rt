@@ -8,7 +8,7 @@ ghost use Prim.Native.Nat.{_+_, _*_, _≤_};
 ghost use lib.ListN.{length};
 ghost use Rattle.image.specs.Plane.{overwritten};
 ghost use Rattle.imgproc.specs.Grid.{tilesX, tilesY};
-ghost use Rattle.imgproc.specs.Tiles.{Sized, Proper, Filled, eachTile};
+ghost use Rattle.imgproc.specs.Tiles.{Sized, Proper, HoldsTiles, eachTile};
 ghost use Rattle.imgproc.specs.TileBytes.{byteBy};
 
 // Which byte of a tile.
@@ -57,7 +57,7 @@ fn write_bytes(
     bytes: &mut [u8],
     to: usize,
 )
-    requires { ⌜ Sized config width height × Filled config width height at (now workspace) × (to + tilesX config width * tilesY config height ≤ length (now bytes)) ⌝ }
+    requires { ⌜ Sized config width height × HoldsTiles config width height at (now workspace) × (to + tilesX config width * tilesY config height ≤ length (now bytes)) ⌝ }
     ensures { λ _. ⌜ now (bytes .exit) ≡ overwritten to (eachTile (byteBy which config) config width height at (now (workspace .entry))) (now (bytes .entry)) ⌝ }
 {
     let tiles_x = tiles::tiles_along(width, config.tile_width);
@@ -90,7 +90,7 @@ pub(crate) fn write_thresholds(
     thresholds: &mut [u8],
     to: usize,
 )
-    requires { ⌜ Sized config width height × Filled config width height at (now workspace) × (to + tilesX config width * tilesY config height ≤ length (now thresholds)) ⌝ }
+    requires { ⌜ Sized config width height × HoldsTiles config width height at (now workspace) × (to + tilesX config width * tilesY config height ≤ length (now thresholds)) ⌝ }
     ensures { λ _. ⌜ now (thresholds .exit) ≡ overwritten to (eachTile (byteBy TileByte.Threshold config) config width height at (now (workspace .entry))) (now (thresholds .entry)) ⌝ }
 {
     write_bytes(
@@ -115,7 +115,7 @@ pub(crate) fn write_skips(
     skips: &mut [u8],
     to: usize,
 )
-    requires { ⌜ Sized config width height × Filled config width height at (now workspace) × (to + tilesX config width * tilesY config height ≤ length (now skips)) ⌝ }
+    requires { ⌜ Sized config width height × HoldsTiles config width height at (now workspace) × (to + tilesX config width * tilesY config height ≤ length (now skips)) ⌝ }
     ensures { λ _. ⌜ now (skips .exit) ≡ overwritten to (eachTile (byteBy TileByte.Skip config) config width height at (now (workspace .entry))) (now (skips .entry)) ⌝ }
 {
     write_bytes(

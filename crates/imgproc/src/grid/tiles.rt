@@ -30,13 +30,13 @@ pub(crate) fn tiles_along(n: usize, side: usize) -> usize
     if 0 < n % side { whole + 1 } else { whole }
 }
 
-fn lesser(a: u8, b: u8) -> u8
+fn min_of(a: u8, b: u8) -> u8
     ensures { λ r. ⌜ r ≡ min a b ⌝ }
 {
     if a < b { a } else { b }
 }
 
-fn greater(a: u8, b: u8) -> u8
+fn max_of(a: u8, b: u8) -> u8
     ensures { λ r. ⌜ r ≡ max a b ⌝ }
 {
     if a < b { b } else { a }
@@ -54,8 +54,8 @@ fn row_numbers(row: &[u8], left: usize, right: usize) -> TileNumbers
     let mut x = left;
     while x < right {
         let value = row[x];
-        minimum = lesser(minimum, value);
-        maximum = greater(maximum, value);
+        minimum = min_of(minimum, value);
+        maximum = max_of(maximum, value);
         sum += value as u32;
         sum_sq += value as u32 * value as u32;
         x += 1;
@@ -75,8 +75,8 @@ fn join(a: TileNumbers, b: TileNumbers) -> TileNumbers
     ensures { λ r. ⌜ r ≡ joined a b ⌝ }
 {
     TileNumbers {
-        minimum: lesser(a.minimum, b.minimum),
-        maximum: greater(a.maximum, b.maximum),
+        minimum: min_of(a.minimum, b.minimum),
+        maximum: max_of(a.maximum, b.maximum),
         sum: a.sum + b.sum,
         sum_sq: a.sum_sq + b.sum_sq,
         count: a.count + b.count,

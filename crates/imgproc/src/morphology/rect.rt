@@ -18,17 +18,17 @@ fn row_core(
     kernel: usize,
     width: usize,
     height: usize,
-    side: bool,
+    least: bool,
 ) -> Tally
     requires { ⌜ SweepReady tally (now ws) from to spare kernel width height ⌝ }
-    ensures { λ r. ⌜ RowsSwept tally (now (ws .entry)) from to spare kernel width height side r (now (ws .exit)) ⌝ }
+    ensures { λ r. ⌜ RowsSwept tally (now (ws .entry)) from to spare kernel width height least r (now (ws .exit)) ⌝ }
 {
     let mut t = tally;
     let mut y = 0;
     while y < height {
         let rows = strip_of(height - y);
         let at = y * width;
-        t = sweep_strip(t, ws, from + at, to + at, spare, kernel, width, rows, side);
+        t = sweep_strip(t, ws, from + at, to + at, spare, kernel, width, rows, least);
         y += rows;
     }
     t
@@ -44,12 +44,12 @@ fn column_core(
     kernel: usize,
     width: usize,
     height: usize,
-    side: bool,
+    least: bool,
 ) -> Tally
     requires { ⌜ SweepReady tally (now ws) from to spare kernel width height ⌝ }
-    ensures { λ r. ⌜ ColumnsSwept tally (now (ws .entry)) from to spare kernel width height side r (now (ws .exit)) ⌝ }
+    ensures { λ r. ⌜ ColumnsSwept tally (now (ws .entry)) from to spare kernel width height least r (now (ws .exit)) ⌝ }
 {
-    running_extremum_1d(tally, ws, from, to, spare, kernel, width, height, side)
+    running_extremum_1d(tally, ws, from, to, spare, kernel, width, height, least)
 }
 
 // The sweep along each row: the lent tally is raised by what the core counted.
@@ -62,12 +62,12 @@ fn sweep_rows(
     kernel: usize,
     width: usize,
     height: usize,
-    side: bool,
+    least: bool,
 )
     requires { ⌜ SweepReady (now tally) (now ws) from to spare kernel width height ⌝ }
-    ensures { λ _. ⌜ RowsSwept (now (tally .entry)) (now (ws .entry)) from to spare kernel width height side (now (tally .exit)) (now (ws .exit)) ⌝ }
+    ensures { λ _. ⌜ RowsSwept (now (tally .entry)) (now (ws .entry)) from to spare kernel width height least (now (tally .exit)) (now (ws .exit)) ⌝ }
 {
-    *tally = row_core(*tally, ws, from, to, spare, kernel, width, height, side);
+    *tally = row_core(*tally, ws, from, to, spare, kernel, width, height, least);
 }
 
 // The sweep along each column: the lent tally is raised by what the core counted.
@@ -80,15 +80,15 @@ fn sweep_columns(
     kernel: usize,
     width: usize,
     height: usize,
-    side: bool,
+    least: bool,
 )
     requires { ⌜ SweepReady (now tally) (now ws) from to spare kernel width height ⌝ }
-    ensures { λ _. ⌜ ColumnsSwept (now (tally .entry)) (now (ws .entry)) from to spare kernel width height side (now (tally .exit)) (now (ws .exit)) ⌝ }
+    ensures { λ _. ⌜ ColumnsSwept (now (tally .entry)) (now (ws .entry)) from to spare kernel width height least (now (tally .exit)) (now (ws .exit)) ⌝ }
 {
-    *tally = column_core(*tally, ws, from, to, spare, kernel, width, height, side);
+    *tally = column_core(*tally, ws, from, to, spare, kernel, width, height, least);
 }
 
-// Erosion where `side` is true, else dilation: along the rows with one kernel, then along the columns with another.
+// Erosion where `least` is true, else dilation: along the rows with one kernel, then along the columns with another.
 // One tally is lent to both sweeps.
 pub(crate) fn morph_rect_into(
     tally: Tally,
@@ -96,32 +96,32 @@ pub(crate) fn morph_rect_into(
     from: usize,
     to: usize,
     spare: usize,
-    row_kernel: usize,
-    column_kernel: usize,
+    kernel_width: usize,
+    kernel_height: usize,
     width: usize,
     height: usize,
-    side: bool,
+    least: bool,
 ) -> Tally
-    requires { ⌜ MorphReady tally (now ws) from to spare «row_kernel» «column_kernel» width height ⌝ }
-    ensures { λ r. ⌜ Morphed tally (now (ws .entry)) from to spare «row_kernel» «column_kernel» width height side r (now (ws .exit)) ⌝ }
+    requires { ⌜ MorphReady tally (now ws) from to spare «kernel_width» «kernel_height» width height ⌝ }
+    ensures { λ r. ⌜ Morphed tally (now (ws .entry)) from to spare «kernel_width» «kernel_height» width height least r (now (ws .exit)) ⌝ }
 {
     let mut t = tally;
-    sweep_rows(&mut t, ws, from, to, spare, row_kernel, width, height, side);
+    sweep_rows(&mut t, ws, from, to, spare, kernel_width, width, height, least);
     sweep_columns(
         &mut t,
         ws,
         to,
         to,
         spare,
-        column_kernel,
+        kernel_height,
         width,
         height,
-        side,
+        least,
     );
     t
 }
 
-// An erosion or a dilation, then another of what it left, each by its side, with one kernel across and another down.
+// An erosion or a dilation, then another of what it left, each an erosion where its flag is true.
 // One tally is lent to all four sweeps.
 fn morph_rect_twice(
     tally: Tally,
@@ -129,21 +129,21 @@ fn morph_rect_twice(
     from: usize,
     to: usize,
     spare: usize,
-    across: usize,
-    down: usize,
+    kernel_width: usize,
+    kernel_height: usize,
     width: usize,
     height: usize,
     first: bool,
     second: bool,
 ) -> Tally
-    requires { ⌜ PairReady tally (now ws) from to spare across down width height ⌝ }
-    ensures { λ r. ⌜ PairMorphed tally (now (ws .entry)) from to spare across down width height first second r (now (ws .exit)) ⌝ }
+    requires { ⌜ PairReady tally (now ws) from to spare «kernel_width» «kernel_height» width height ⌝ }
+    ensures { λ r. ⌜ PairMorphed tally (now (ws .entry)) from to spare «kernel_width» «kernel_height» width height first second r (now (ws .exit)) ⌝ }
 {
     let mut t = tally;
-    sweep_rows(&mut t, ws, from, to, spare, across, width, height, first);
-    sweep_columns(&mut t, ws, to, to, spare, down, width, height, first);
-    sweep_rows(&mut t, ws, to, to, spare, across, width, height, second);
-    sweep_columns(&mut t, ws, to, to, spare, down, width, height, second);
+    sweep_rows(&mut t, ws, from, to, spare, kernel_width, width, height, first);
+    sweep_columns(&mut t, ws, to, to, spare, kernel_height, width, height, first);
+    sweep_rows(&mut t, ws, to, to, spare, kernel_width, width, height, second);
+    sweep_columns(&mut t, ws, to, to, spare, kernel_height, width, height, second);
     t
 }
 

@@ -11,15 +11,15 @@ ghost use Prim.Native.Nat.{_+_, _*_, _<_, _≤_};
 ghost use lib.ListN.{length, getD};
 ghost use Rattle.imgproc.specs.Reach.{low, high};
 ghost use Rattle.imgproc.specs.Tallies.{HasRoom};
-ghost use Rattle.imgproc.specs.Compared.{Compares, first};
+ghost use Rattle.imgproc.specs.Compared.{Compares, extreme};
 ghost use Rattle.imgproc.specs.Sweeps.{lane, Apart, Rowed, LanesReady, LanesMet, PassReady, JoinReady, ForwardPassed, BackwardPassed, JoinPassed, LinesReady, LinesSwept, TurnReady, Turned, SweepReady, RowsSwept};
 
-// The lesser of two samples where `side` is true, else the greater.
-fn extreme(tally: Tally, a: u8, b: u8, side: bool) -> Met
+// The lesser of two samples where `least` is true, else the greater.
+fn extreme(tally: Tally, a: u8, b: u8, least: bool) -> Met
     requires { ⌜ HasRoom tally 1 ⌝ }
-    ensures { λ r. ⌜ Compares (first side a b) tally r ⌝ }
+    ensures { λ r. ⌜ Compares (extreme least a b) tally r ⌝ }
 {
-    if side {
+    if least {
         lesser(tally, a, b)
     } else {
         greater(tally, a, b)
@@ -46,15 +46,15 @@ fn meet_lanes(
     b: usize,
     to: usize,
     lanes: usize,
-    side: bool,
+    least: bool,
 ) -> Tally
     requires { ⌜ LanesReady tally (now ws) a b to lanes ⌝ }
-    ensures { λ r. ⌜ LanesMet tally (now (ws .entry)) a b to lanes side r (now (ws .exit)) ⌝ }
+    ensures { λ r. ⌜ LanesMet tally (now (ws .entry)) a b to lanes least r (now (ws .exit)) ⌝ }
 {
     let mut t = tally;
     let mut x = 0;
     while x < lanes {
-        let met = extreme(t, ws[a + x], ws[b + x], side);
+        let met = extreme(t, ws[a + x], ws[b + x], least);
         t = counted(met);
         ws[to + x] = chosen(met);
         x += 1;
@@ -71,10 +71,10 @@ fn forward_pass(
     kernel: usize,
     width: usize,
     height: usize,
-    side: bool,
+    least: bool,
 ) -> Tally
     requires { ⌜ PassReady tally (now ws) from to kernel width height ⌝ }
-    ensures { λ r. ⌜ ForwardPassed tally (now (ws .entry)) from to kernel width height side r (now (ws .exit)) ⌝ }
+    ensures { λ r. ⌜ ForwardPassed tally (now (ws .entry)) from to kernel width height least r (now (ws .exit)) ⌝ }
 {
     let mut t = tally;
     let mut next = 0;
@@ -87,7 +87,7 @@ fn forward_pass(
         if y % kernel == 0 {
             copy_lanes(ws, from + at, to + at, width);
         } else {
-            t = meet_lanes(t, ws, to + (at - width), from + at, to + at, width, side);
+            t = meet_lanes(t, ws, to + (at - width), from + at, to + at, width, least);
         }
     }
     t
@@ -102,10 +102,10 @@ fn backward_pass(
     kernel: usize,
     width: usize,
     height: usize,
-    side: bool,
+    least: bool,
 ) -> Tally
     requires { ⌜ PassReady tally (now ws) from to kernel width height ⌝ }
-    ensures { λ r. ⌜ BackwardPassed tally (now (ws .entry)) from to kernel width height side r (now (ws .exit)) ⌝ }
+    ensures { λ r. ⌜ BackwardPassed tally (now (ws .entry)) from to kernel width height least r (now (ws .exit)) ⌝ }
 {
     let mut t = tally;
     let mut y = height;
@@ -116,7 +116,7 @@ fn backward_pass(
         if y % kernel == kernel - 1 || y == height - 1 {
             copy_lanes(ws, from + at, to + at, width);
         } else {
-            t = meet_lanes(t, ws, to + (at + width), from + at, to + at, width, side);
+            t = meet_lanes(t, ws, to + (at + width), from + at, to + at, width, least);
         }
     }
     t
@@ -147,10 +147,10 @@ fn join_pass(
     kernel: usize,
     width: usize,
     height: usize,
-    side: bool,
+    least: bool,
 ) -> Tally
     requires { ⌜ JoinReady tally (now ws) suffix prefix to kernel width height ⌝ }
-    ensures { λ r. ⌜ JoinPassed tally (now (ws .entry)) suffix prefix to kernel width height side r (now (ws .exit)) ⌝ }
+    ensures { λ r. ⌜ JoinPassed tally (now (ws .entry)) suffix prefix to kernel width height least r (now (ws .exit)) ⌝ }
 {
     let radius = (kernel - 1) / 2;
     let mut t = tally;
@@ -159,7 +159,7 @@ fn join_pass(
     while y < height {
         let low = low_of(y, radius) * width;
         let high = high_of(y, radius, height) * width;
-        t = meet_lanes(t, ws, suffix + low, prefix + high, to + at, width, side);
+        t = meet_lanes(t, ws, suffix + low, prefix + high, to + at, width, least);
         at += width;
         y += 1;
     }
@@ -177,15 +177,15 @@ pub(crate) fn running_extremum_1d(
     kernel: usize,
     width: usize,
     height: usize,
-    side: bool,
+    least: bool,
 ) -> Tally
     requires { ⌜ LinesReady tally (now ws) from to spare kernel width height ⌝ }
-    ensures { λ r. ⌜ LinesSwept tally (now (ws .entry)) from to spare kernel width height side r (now (ws .exit)) ⌝ }
+    ensures { λ r. ⌜ LinesSwept tally (now (ws .entry)) from to spare kernel width height least r (now (ws .exit)) ⌝ }
 {
     let suffix = spare + width * height;
-    let a = forward_pass(tally, ws, from, spare, kernel, width, height, side);
-    let b = backward_pass(a, ws, from, suffix, kernel, width, height, side);
-    join_pass(b, ws, suffix, spare, to, kernel, width, height, side)
+    let a = forward_pass(tally, ws, from, spare, kernel, width, height, least);
+    let b = backward_pass(a, ws, from, suffix, kernel, width, height, least);
+    join_pass(b, ws, suffix, spare, to, kernel, width, height, least)
 }
 
 // Column x of a plane whose rows are `step` long, as a row of `count` samples.
@@ -233,14 +233,14 @@ pub(crate) fn sweep_strip(
     kernel: usize,
     width: usize,
     height: usize,
-    side: bool,
+    least: bool,
 ) -> Tally
     requires { ⌜ SweepReady tally (now ws) from to spare kernel width height ⌝ }
-    ensures { λ r. ⌜ RowsSwept tally (now (ws .entry)) from to spare kernel width height side r (now (ws .exit)) ⌝ }
+    ensures { λ r. ⌜ RowsSwept tally (now (ws .entry)) from to spare kernel width height least r (now (ws .exit)) ⌝ }
 {
     let lines = spare + width * height;
     turn(ws, from, spare, height, width);
-    let t = running_extremum_1d(tally, ws, spare, spare, lines, kernel, height, width, side);
+    let t = running_extremum_1d(tally, ws, spare, spare, lines, kernel, height, width, least);
     turn(ws, spare, to, width, height);
     t
 }

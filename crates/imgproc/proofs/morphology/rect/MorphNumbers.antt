@@ -21,11 +21,11 @@ to x = x .1 .0
 abbrev pub spare : Own → ℕ
 spare x = x .1 .1 .0
 
-abbrev pub row-kernel : Own → ℕ
-row-kernel x = x .1 .1 .1 .0
+abbrev pub kernel-width : Own → ℕ
+kernel-width x = x .1 .1 .1 .0
 
-abbrev pub column-kernel : Own → ℕ
-column-kernel x = x .1 .1 .1 .1 .0
+abbrev pub kernel-height : Own → ℕ
+kernel-height x = x .1 .1 .1 .1 .0
 
 abbrev pub width : Own → ℕ
 width x = x .1 .1 .1 .1 .1 .0
@@ -33,8 +33,8 @@ width x = x .1 .1 .1 .1 .1 .0
 abbrev pub height : Own → ℕ
 height x = x .1 .1 .1 .1 .1 .1 .0
 
-abbrev pub side : Own → Bool
-side x = x .1 .1 .1 .1 .1 .1 .1 .0
+abbrev pub least : Own → Bool
+least x = x .1 .1 .1 .1 .1 .1 .1 .0
 
 abbrev pub OwnFit : Own → Type 0
 OwnFit x = (x .0 < 2 ^ 64) × ((x .1 .0 < 2 ^ 64) × ((x .1 .1 .0 < 2 ^ 64) × ((x .1 .1 .1 .0 < 2 ^ 64) ×
@@ -42,21 +42,21 @@ OwnFit x = (x .0 < 2 ^ 64) × ((x .1 .0 < 2 ^ 64) × ((x .1 .1 .0 < 2 ^ 64) × (
 
 -- the numbers of each call, and that they fit
 abbrev pub num-1 : Own → Nums
-num-1 x = (from x, (to x, (spare x, (row-kernel x, (width x, (height x, (side x, tt)))))))
+num-1 x = (from x, (to x, (spare x, (kernel-width x, (width x, (height x, (least x, tt)))))))
 
 pub fit-1 : (x : Own) → OwnFit x → NumsFit (num-1 x)
 fit-1 x fit = (fit .0, (fit .1 .0, (fit .1 .1 .0, (fit .1 .1 .1 .0, (fit .1 .1 .1 .1 .1 .0, fit .1 .1 .1 .1 .1 .1)))))
 
 abbrev pub num-2 : Own → Nums
-num-2 x = (to x, (to x, (spare x, (column-kernel x, (width x, (height x, (side x, tt)))))))
+num-2 x = (to x, (to x, (spare x, (kernel-height x, (width x, (height x, (least x, tt)))))))
 
 pub fit-2 : (x : Own) → OwnFit x → NumsFit (num-2 x)
 fit-2 x fit = (fit .1 .0, (fit .1 .0, (fit .1 .1 .0, (fit .1 .1 .1 .1 .0, (fit .1 .1 .1 .1 .1 .0, fit .1 .1 .1 .1 .1 .1)))))
 
 -- what is asked
 abbrev pub Asked : Tally → List ℕ → Own → Type 0
-Asked t d x = MorphReady t d (from x) (to x) (spare x) (row-kernel x) (column-kernel x) (width x) (height x)
+Asked t d x = MorphReady t d (from x) (to x) (spare x) (kernel-width x) (kernel-height x) (width x) (height x)
 
 -- what is said of the tally and the list at entry, of the tally that is returned, and of the list at exit
 abbrev pub Done : Tally → List ℕ → Own → Tally → List ℕ → Type 0
-Done t d x r d′ = Morphed t d (from x) (to x) (spare x) (row-kernel x) (column-kernel x) (width x) (height x) (side x) r d′
+Done t d x r d′ = Morphed t d (from x) (to x) (spare x) (kernel-width x) (kernel-height x) (width x) (height x) (least x) r d′

@@ -21,11 +21,11 @@ to x = x .1 .0
 abbrev pub spare : Own → ℕ
 spare x = x .1 .1 .0
 
-abbrev pub across : Own → ℕ
-across x = x .1 .1 .1 .0
+abbrev pub kernel-width : Own → ℕ
+kernel-width x = x .1 .1 .1 .0
 
-abbrev pub down : Own → ℕ
-down x = x .1 .1 .1 .1 .0
+abbrev pub kernel-height : Own → ℕ
+kernel-height x = x .1 .1 .1 .1 .0
 
 abbrev pub width : Own → ℕ
 width x = x .1 .1 .1 .1 .1 .0
@@ -45,33 +45,33 @@ OwnFit x = (x .0 < 2 ^ 64) × ((x .1 .0 < 2 ^ 64) × ((x .1 .1 .0 < 2 ^ 64) × (
 
 -- the numbers of each call, and that they fit
 abbrev pub num-1 : Own → Nums
-num-1 x = (from x, (to x, (spare x, (across x, (width x, (height x, (first x, tt)))))))
+num-1 x = (from x, (to x, (spare x, (kernel-width x, (width x, (height x, (first x, tt)))))))
 
 pub fit-1 : (x : Own) → OwnFit x → NumsFit (num-1 x)
 fit-1 x fit = (fit .0, (fit .1 .0, (fit .1 .1 .0, (fit .1 .1 .1 .0, (fit .1 .1 .1 .1 .1 .0, fit .1 .1 .1 .1 .1 .1)))))
 
 abbrev pub num-2 : Own → Nums
-num-2 x = (to x, (to x, (spare x, (down x, (width x, (height x, (first x, tt)))))))
+num-2 x = (to x, (to x, (spare x, (kernel-height x, (width x, (height x, (first x, tt)))))))
 
 pub fit-2 : (x : Own) → OwnFit x → NumsFit (num-2 x)
 fit-2 x fit = (fit .1 .0, (fit .1 .0, (fit .1 .1 .0, (fit .1 .1 .1 .1 .0, (fit .1 .1 .1 .1 .1 .0, fit .1 .1 .1 .1 .1 .1)))))
 
 abbrev pub num-3 : Own → Nums
-num-3 x = (to x, (to x, (spare x, (across x, (width x, (height x, (second x, tt)))))))
+num-3 x = (to x, (to x, (spare x, (kernel-width x, (width x, (height x, (second x, tt)))))))
 
 pub fit-3 : (x : Own) → OwnFit x → NumsFit (num-3 x)
 fit-3 x fit = (fit .1 .0, (fit .1 .0, (fit .1 .1 .0, (fit .1 .1 .1 .0, (fit .1 .1 .1 .1 .1 .0, fit .1 .1 .1 .1 .1 .1)))))
 
 abbrev pub num-4 : Own → Nums
-num-4 x = (to x, (to x, (spare x, (down x, (width x, (height x, (second x, tt)))))))
+num-4 x = (to x, (to x, (spare x, (kernel-height x, (width x, (height x, (second x, tt)))))))
 
 pub fit-4 : (x : Own) → OwnFit x → NumsFit (num-4 x)
 fit-4 x fit = (fit .1 .0, (fit .1 .0, (fit .1 .1 .0, (fit .1 .1 .1 .1 .0, (fit .1 .1 .1 .1 .1 .0, fit .1 .1 .1 .1 .1 .1)))))
 
 -- what is asked
 abbrev pub Asked : Tally → List ℕ → Own → Type 0
-Asked t d x = PairReady t d (from x) (to x) (spare x) (across x) (down x) (width x) (height x)
+Asked t d x = PairReady t d (from x) (to x) (spare x) (kernel-width x) (kernel-height x) (width x) (height x)
 
 -- what is said of the tally and the list at entry, of the tally that is returned, and of the list at exit
 abbrev pub Done : Tally → List ℕ → Own → Tally → List ℕ → Type 0
-Done t d x r d′ = PairMorphed t d (from x) (to x) (spare x) (across x) (down x) (width x) (height x) (first x) (second x) r d′
+Done t d x r d′ = PairMorphed t d (from x) (to x) (spare x) (kernel-width x) (kernel-height x) (width x) (height x) (first x) (second x) r d′

@@ -10,11 +10,11 @@ use borrow.Author.Tests.{eq-eqb, eqb-true, eqb-false}
 use Rattle.imgproc.specs.Extremes.{Extreme, Order, Between, lowest, highest}
 use Rattle.imgproc.specs.Reach.{low, high, radius, oneBlock, reachFrom, reachTo, backwardAt}
 use Rattle.imgproc.specs.Walks.{cases, quotient, place}
-use Rattle.imgproc.specs.Compared.{Before, first}
+use Rattle.imgproc.specs.Compared.{Before, extreme}
 use Rattle.imgproc.specs.Sweeps.{Forwards, Backwards, Reached, Joins}
 
--- each side is an order
-pub order : (side : Bool) → Order (Before side) (first side)
+-- each least is an order
+pub order : (least : Bool) → Order (Before least) (extreme least)
 order true = lowest
 order false = highest
 

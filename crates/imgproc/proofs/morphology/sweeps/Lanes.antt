@@ -19,14 +19,14 @@ use Rattle.imgproc.specs.Sweeps.{lane, Apart, Off, Outside, Rowed, Passe
 
 -- a place of a stretch is off each stretch apart from it
 pub off : {a m b n : ℕ} (j : ℕ) → Apart a m b n → a ≤ j → j < a + m → Off b n j
-off j p l h = record { side = ⊎-elim (λ q. inl (omega arith)) (λ q. inr (omega arith)) (p .sides) }
+off j p l h = record { off = ⊎-elim (λ q. inl (omega arith)) (λ q. inr (omega arith)) (p .clear) }
 
 -- stretches within stretches that are apart
 pub apart-within : {a m b n : ℕ} (a′ m′ b′ n′ : ℕ) → Apart a m b n → a ≤ a′ → a′ + m′ ≤ a + m → b ≤ b′ → b′ + n′ ≤ b + n → Apart a′ m′ b′ n′
-apart-within a′ m′ b′ n′ p x y z w = record { sides = ⊎-elim (λ q. inl (omega arith)) (λ q. inr (omega arith)) (p .sides) }
+apart-within a′ m′ b′ n′ p x y z w = record { clear = ⊎-elim (λ q. inl (omega arith)) (λ q. inr (omega arith)) (p .clear) }
 
 pub apart-swap : {a m b n : ℕ} → Apart a m b n → Apart b n a m
-apart-swap p = record { sides = ⊎-elim (λ q. inr q) (λ q. inl q) (p .sides) }
+apart-swap p = record { clear = ⊎-elim (λ q. inr q) (λ q. inl q) (p .clear) }
 
 -- line y ends before line z starts
 pub line-order : (w y z : ℕ) → y < z → y * w + w ≤ z * w
@@ -41,7 +41,7 @@ pub outside-none : (at : ℕ) (d : List ℕ) → Outside at 0 d d
 outside-none at d = record { long = refl; before = λ j l. refl; after = λ j l. refl }
 
 pub outside-at : {at n : ℕ} {d d′ : List ℕ} (j : ℕ) → Outside at n d d′ → Off at n j → getD d′ j 0 ≡ getD d j 0
-outside-at j o p = ⊎-elim (o .before j) (o .after j) (p .side)
+outside-at j o p = ⊎-elim (o .before j) (o .after j) (p .off)
 
 -- a stretch of a stretch that may change, after it
 pub outside-more : {at n : ℕ} {d d′ d″ : List ℕ} (a m : ℕ) → Outside at n d d′ → Outside a m d′ d″ → at ≤ a → a + m ≤ at + n → Outside at n d d″
@@ -72,7 +72,7 @@ module _ (at : ℕ) (g : ℕ → ℕ) (d : List ℕ) where
 
   -- what lies apart from the row is as it was
   pub row-apart : {from n w : ℕ} (x j : ℕ) (a : List ℕ) → Rowed at x g d a → Apart from n at w → x ≤ w → from ≤ j → j < from + n → getD a j 0 ≡ getD d j 0
-  row-apart x j a h p l m q = ⊎-elim (λ s. h .rest .before j (omega arith)) (λ s. h .rest .after j (omega arith)) (p .sides)
+  row-apart x j a h p l m q = ⊎-elim (λ s. h .rest .before j (omega arith)) (λ s. h .rest .after j (omega arith)) (p .clear)
 
 pub row-all : {at x w : ℕ} {g : ℕ → ℕ} {d a : List ℕ} → Rowed at x g d a → x ≤ w → w ≤ x → Rowed at w g d a
 row-all {at} {x} {w} {g} {d} {a} h l m = subst (λ (n : ℕ). Rowed at n g d a) (omega arith) h

@@ -94,17 +94,17 @@ module _ (op : ℕ → ℕ → ℕ) (k suffix prefix to w h : ℕ)
       (raised-as e (omega arith))
 
 -- ---- the three passes: at each sample of each lane the extreme of its reach. The scratch at `spare` holds the forward extremes, then the backward ones
-pub lines-swept : {side : Bool} {k from to spare w h : ℕ} {t a b r : Tally} {d e f g : List ℕ} → 0 < k → Apart from (w * h) spare (2 * (w * h))
-    → ForwardPassed t d from spare k w h side a e → BackwardPassed a e from (spare + w * h) k w h side b f → JoinPassed b f (spare + w * h) spare to k w h side r g
-    → LinesSwept t d from to spare k w h side r g
-lines-swept {side} {k} {from} {to} {spare} {w} {h} {d = d} {f = f} {g = g} pos apart forth back joined = record {
+pub lines-swept : {least : Bool} {k from to spare w h : ℕ} {t a b r : Tally} {d e f g : List ℕ} → 0 < k → Apart from (w * h) spare (2 * (w * h))
+    → ForwardPassed t d from spare k w h least a e → BackwardPassed a e from (spare + w * h) k w h least b f → JoinPassed b f (spare + w * h) spare to k w h least r g
+    → LinesSwept t d from to spare k w h least r g
+lines-swept {least} {k} {from} {to} {spare} {w} {h} {d = d} {f = f} {g = g} pos apart forth back joined = record {
   each = λ x y X Y.
-      reached (order side) k pos (lane d from w x) h (lane f (spare + w * h) w x) (lane f spare w x)
+      reached (order least) k pos (lane d from w x) h (lane f (spare + w * h) w x) (lane f spare w x)
       (λ j l.
       seen
       (λ i s. plane-kept from x i (from + (i * w + x)) (apart-within _ _ _ _ apart (omega arith) (omega arith) (omega arith) (omega arith)) (forth .rest) X (omega arith) refl)
       (back .each x j X l))
-      (λ j l. rw (plane-kept spare x j (spare + (j * w + x)) (record { sides = inl (omega arith) }) (back .rest) X l refl) (forth .each x j X l))
+      (λ j l. rw (plane-kept spare x j (spare + (j * w + x)) (record { clear = inl (omega arith) }) (back .rest) X l refl) (forth .each x j X l))
       y
       (lane g to w x y)
       Y
@@ -114,8 +114,8 @@ lines-swept {side} {k} {from} {to} {spare} {w} {h} {d = d} {f = f} {g = g} pos a
     long = joined .rest .long ∙ back .rest .long ∙ forth .rest .long;
     same = λ j p q.
         outside-at j (joined .rest) p
-        ∙ outside-at j (back .rest) (record { side = ⊎-elim (λ s. inl (omega arith)) (λ s. inr (omega arith)) (q .side) })
-        ∙ outside-at j (forth .rest) (record { side = ⊎-elim (λ s. inl (omega arith)) (λ s. inr (omega arith)) (q .side) });
+        ∙ outside-at j (back .rest) (record { off = ⊎-elim (λ s. inl (omega arith)) (λ s. inr (omega arith)) (q .off) })
+        ∙ outside-at j (forth .rest) (record { off = ⊎-elim (λ s. inl (omega arith)) (λ s. inr (omega arith)) (q .off) });
   };
 }
 

@@ -22,7 +22,7 @@ use Rattle.imgproc.specs.declared.reading.judging.Judgement.the-variants
 use Rattle.imgproc.specs.Fold.{bit}
 use Rattle.imgproc.specs.Reach.{ceiling, walk}
 use Rattle.imgproc.specs.Grid.{tilesX, tilesY, skipOf, skips}
-use Rattle.imgproc.specs.Sauvola.{thresholdAt, atOrBelow}
+use Rattle.imgproc.specs.Sauvola.{thresholdAtPixel, atOrBelow}
 use Rattle.imgproc.specs.Walks.{walk-more, walk-le}
 use Rattle.imgproc.specs.Reading.{isDark, isLight, isSkipped, byteOf, judgedOver, pixels}
 use Rattle.imgproc.specs.ReadingSteps.{JudgeReady, Room, PixelsJudged, markedOver}
@@ -75,11 +75,11 @@ module _ (o : List ℕ) (g : Geometry) (sk ws : List ℕ) (at : ℕ) (s : Readin
   unfolding judgedOver
   is-skipped n = rw (bit-one (skipOf (s .grid) (g .width) (g .height) o (x / s .grid .«tile_width») (y / s .grid .«tile_height»)) (λ e. n (mark ∙ e)))
 
-  module _ (kept : getD sk (y / s .grid .«tile_height» * tilesX (s .grid) (g .width) + x / s .grid .«tile_width») 0 ≡ 0) (t : ℕ) (is : t ≡ thresholdAt (s .sauvola) (g .width) (g .height) (picture o g) x y) where
-    threshold-is : t ≡ thresholdAt (s .sauvola) (g .width) (g .height) o x y
+  module _ (kept : getD sk (y / s .grid .«tile_height» * tilesX (s .grid) (g .width) + x / s .grid .«tile_width») 0 ≡ 0) (t : ℕ) (is : t ≡ thresholdAtPixel (s .sauvola) (g .width) (g .height) (picture o g) x y) where
+    threshold-is : t ≡ thresholdAtPixel (s .sauvola) (g .width) (g .height) o x y
     threshold-is =
         is
-        ∙ ap (λ (p : List ℕ). thresholdAt (s .sauvola) (g .width) (g .height) p x y)
+        ∙ ap (λ (p : List ℕ). thresholdAtPixel (s .sauvola) (g .width) (g .height) p x y)
         (picture-again o g (ready .tables .layout .wide) (ready .tight) (ready .whole))
 
     goes-on : skipOf (s .grid) (g .width) (g .height) o (x / s .grid .«tile_width») (y / s .grid .«tile_height») ≡ false
@@ -87,11 +87,11 @@ module _ (o : List ℕ) (g : Geometry) (sk ws : List ℕ) (at : ℕ) (s : Readin
 
     pub is-dark : getD o (y * g .width + x) 0 ≤ t → Dark ≡ judgedOver s (g .width) (g .height) o x y
     unfolding judgedOver atOrBelow
-    is-dark l = rw (goes-on, le-leb (pixel o (g .width) x y) (thresholdAt (s .sauvola) (g .width) (g .height) o x y) (omega (arith, threshold-is)))
+    is-dark l = rw (goes-on, le-leb (pixel o (g .width) x y) (thresholdAtPixel (s .sauvola) (g .width) (g .height) o x y) (omega (arith, threshold-is)))
 
     pub is-light : t < getD o (y * g .width + x) 0 → Light ≡ judgedOver s (g .width) (g .height) o x y
     unfolding judgedOver atOrBelow
-    is-light l = rw (goes-on, lt-leb (pixel o (g .width) x y) (thresholdAt (s .sauvola) (g .width) (g .height) o x y) (omega (arith, threshold-is)))
+    is-light l = rw (goes-on, lt-leb (pixel o (g .width) x y) (thresholdAtPixel (s .sauvola) (g .width) (g .height) o x y) (omega (arith, threshold-is)))
 
 -- ---- a row, pixel after pixel
 

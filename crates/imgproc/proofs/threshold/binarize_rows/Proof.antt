@@ -7,21 +7,21 @@ use mathlib.Core.List.{List}
 use lib.ListN.{length}
 use denote.Ref.{now}
 use Rattle.image.specs.Plane.{picture}
-use Rattle.imgproc.specs.Sauvola.{binarised}
+use Rattle.imgproc.specs.Sauvola.{binarized}
 use Rattle.image.specs.PaintRows.{RowsPainted, rows-start, rows-same, rows-done, row-fits, part-long, rows-next, row-within-as}
-use Rattle.imgproc.proofs.threshold.Verdicts.{binarised-pixel}
+use Rattle.imgproc.proofs.threshold.Verdicts.{binarized-pixel}
 use Rattle.imgproc.proofs.threshold.binarize_rows.Statement.{statement}
 use Rattle.imgproc.proofs.threshold.binarize_rows.Tie as tie
 
 abbrev Inv-loop : tie.InvT-loop
 Inv-loop src geometry workspace at dst₀ dst-geometry config y₀ dst y =
-    RowsPainted (binarised config (geometry .width) (geometry .height) (picture src geometry)) (geometry .width) (geometry .height) (dst-geometry .stride) dst₀ dst y
+    RowsPainted (binarized config (geometry .width) (geometry .height) (picture src geometry)) (geometry .width) (geometry .height) (dst-geometry .stride) dst₀ dst y
 
 abbrev μ-loop : tie.MeasureT-loop
 μ-loop src geometry workspace at dst₀ dst-geometry config y₀ dst y = geometry .height - y
 
 abbrev new : tie.Start Inv-loop μ-loop → List ℕ
-new s = let g = s .args .geometry in binarised (s .args .config) (g .width) (g .height) (picture (now (s .args .src)) g)
+new s = let g = s .args .geometry in binarized (s .args .config) (g .width) (g .height) (picture (now (s .args .src)) g)
 
 abbrev start : tie.Then1 Inv-loop μ-loop → tie.Start Inv-loop μ-loop
 start t = t .before .before .before .before .before .before
@@ -81,7 +81,7 @@ loop-again c =
     let g = s .args .geometry in
     rows-next (new s) _ _ _ (now (s .args .dst)) (l .y) (l .inv) (wide s .0) (wide s .1) (within t) (v .verdict-row .last .1 .1 .1 .1 .1 .1 .0)
     (v .verdict-row .kept .1 .1 .1 .1 .1 .1 .0 ∙ part-long (new s) _ _ _ (now (s .args .dst)) (l .y) (l .inv) (wide s .0) (wide s .1) (within t))
-    (λ x u. v .verdict-row .ensures x u ∙ sym (binarised-pixel (s .args .config) (g .width) (g .height) (picture (now (s .args .src)) g) x (l .y) u (t .if1 .taken)))
+    (λ x u. v .verdict-row .ensures x u ∙ sym (binarized-pixel (s .args .config) (g .width) (g .height) (picture (now (s .args .src)) g) x (l .y) u (t .if1 .taken)))
     (t .if1 .taken)
 
 same-length : tie.Need-same-length Inv-loop μ-loop

@@ -1,4 +1,4 @@
--- `sauvola_into` refuses in document 01's order, and else binarises. Assumes nothing.
+-- `sauvola_into` refuses in document 01's order, and else binarizes. Assumes nothing.
 use borrow.Author.Needs.{needs}
 use mathlib.Core.Path.{refl, sym, _∙_}
 use lib.ListN.{length}

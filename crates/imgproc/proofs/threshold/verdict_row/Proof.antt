@@ -8,13 +8,13 @@ use Rattle.image.specs.Plane.{picture}
 use Rattle.imgproc.specs.Sauvola.{verdict}
 use Rattle.imgproc.specs.Tables.{pixelsOf}
 use Rattle.image.specs.RowLaws.{row-long, row-picture}
-use Rattle.imgproc.proofs.threshold.Verdicts.{Filled, filled-none, filled-more, verdict-dark, verdict-light}
+use Rattle.imgproc.proofs.threshold.Verdicts.{FilledSoFar, filled-none, filled-more, verdict-dark, verdict-light}
 use Rattle.imgproc.proofs.threshold.verdict_row.Statement.{statement}
 use Rattle.imgproc.proofs.threshold.verdict_row.Tie as tie
 
 abbrev Inv-loop : tie.InvT-loop
 Inv-loop src geometry workspace at config y out₀ row next₀ out next =
-    Filled (λ x. verdict config (geometry .width) (geometry .height) (picture src geometry) x y) (geometry .width) out₀ out next
+    FilledSoFar (λ x. verdict config (geometry .width) (geometry .height) (picture src geometry) x y) (geometry .width) out₀ out next
 
 abbrev μ-loop : tie.MeasureT-loop
 μ-loop src geometry workspace at config y out₀ row next₀ out next = geometry .width - next

@@ -5,11 +5,11 @@ use borrow.Author.Needs.{needs}
 use Rattle.imgproc.proofs.grid.tiles.join.Statement.{statement}
 use Rattle.imgproc.proofs.grid.tiles.join.Tie as tie
 
-lesser-requires : tie.Need-lesser-requires
-lesser-requires c κs = search needs
+min-of-requires : tie.Need-min-of-requires
+min-of-requires c κs = search needs
 
-greater-requires : tie.Need-greater-requires
-greater-requires c κs = search needs
+max-of-requires : tie.Need-max-of-requires
+max-of-requires c κs = search needs
 
 add-t5 : tie.Need-add-t5
 add-t5 c = search needs
@@ -21,7 +21,7 @@ add-t7 : tie.Need-add-t7
 add-t7 c = search needs
 
 returns : tie.Need-returns
-returns c = same _ _ (c .before .before .before .before .before .before .before .lesser .ensures) (c .before .before .before .before .before .before .greater .ensures) refl refl refl
+returns c = same _ _ (c .before .before .before .before .before .before .before .min-of .ensures) (c .before .before .before .before .before .before .max-of .ensures) refl refl refl
 
 pub join-spec : {M : Type 1} → statement M
-join-spec = tie.close (tie.spec lesser-requires greater-requires add-t5 add-t6 add-t7 returns)
+join-spec = tie.close (tie.spec min-of-requires max-of-requires add-t5 add-t6 add-t7 returns)

@@ -21,7 +21,7 @@ bytes : (c : tie.After-shared-slice-known Inv-loop μ-loop) (k : ℕ) → getD (
 bytes c k = omega (arith, c .shared-slice-known .given k)
 
 -- the sample at hand, and the sums before it
-here : (c : tie.After-greater Inv-loop μ-loop)
+here : (c : tie.After-max-of Inv-loop μ-loop)
     → (c .before .before .before .before .loop .sum ≤ 255 * sideLimit) × (c .before .before .before .before .loop .sum-sq ≤ 65025 * sideLimit)
 here c =
     let l = c .before .before .before .before .loop in
@@ -37,11 +37,11 @@ loop-holds c = (omega arith, omega arith, scanned-none _ _)
 shared-slice-read-value : tie.Need-shared-slice-read-value Inv-loop μ-loop
 shared-slice-read-value c = search needs
 
-lesser-requires : tie.Need-lesser-requires Inv-loop μ-loop
-lesser-requires c κs = search needs
+min-of-requires : tie.Need-min-of-requires Inv-loop μ-loop
+min-of-requires c κs = search needs
 
-greater-requires : tie.Need-greater-requires Inv-loop μ-loop
-greater-requires c κs = search needs
+max-of-requires : tie.Need-max-of-requires Inv-loop μ-loop
+max-of-requires c κs = search needs
 
 cast-sum : tie.Need-cast-sum Inv-loop μ-loop
 cast-sum c = search needs
@@ -70,7 +70,7 @@ loop-less c = search needs
 loop-again : tie.Need-loop-again Inv-loop μ-loop
 loop-again c =
     let l = c .before .before .before .before .loop in
-    (omega arith, omega arith, scanned-more (l .inv .2) (l .inv .0) (c .before .lesser .ensures) (c .greater .ensures))
+    (omega arith, omega arith, scanned-more (l .inv .2) (l .inv .0) (c .before .min-of .ensures) (c .max-of .ensures))
 
 cast-t16 : tie.Need-cast-t16 Inv-loop μ-loop
 cast-t16 c = let l = c .before .loop in omega (arith, sum-small (l .inv .2) (l .inv .0) (bytes (c .before .before)))
@@ -95,8 +95,8 @@ row-numbers-spec =
     μ-loop
     loop-holds
     shared-slice-read-value
-    lesser-requires
-    greater-requires
+    min-of-requires
+    max-of-requires
     cast-sum
     add-sum
     cast-sum-sq

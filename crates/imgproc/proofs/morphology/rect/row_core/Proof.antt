@@ -7,11 +7,11 @@ use Rattle.imgproc.proofs.morphology.rect.row_core.Statement.{statement
 use Rattle.imgproc.proofs.morphology.rect.row_core.Tie as tie
 
 abbrev Inv-loop : tie.InvT-loop
-Inv-loop ws₀ from to spare kernel width height side t₀ y₀ ws t y =
-    Sweeping t₀ ws₀ from to spare kernel width height side y t ws
+Inv-loop ws₀ from to spare kernel width height least t₀ y₀ ws t y =
+    Sweeping t₀ ws₀ from to spare kernel width height least y t ws
 
 abbrev μ-loop : tie.MeasureT-loop
-μ-loop ws₀ from to spare kernel width height side t₀ y₀ ws t y = height - y
+μ-loop ws₀ from to spare kernel width height least t₀ y₀ ws t y = height - y
 
 loop-holds : tie.Need-loop-holds Inv-loop μ-loop
 loop-holds c = sweeping-none (c .before .pre)

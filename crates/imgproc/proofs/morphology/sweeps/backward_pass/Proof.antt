@@ -16,11 +16,11 @@ use Rattle.imgproc.proofs.morphology.sweeps.backward_pass.Statement.{st
 use Rattle.imgproc.proofs.morphology.sweeps.backward_pass.Tie as tie
 
 abbrev Inv-loop : tie.InvT-loop
-Inv-loop ws₀ from to kernel width height side t₀ y₀ at₀ ws t y at =
-    Upward (λ (x : ℕ). Backwards (Before side) kernel height (lane ws₀ from width x)) (backwardAt kernel height) to width height y at ws₀ ws t₀ t
+Inv-loop ws₀ from to kernel width height least t₀ y₀ at₀ ws t y at =
+    Upward (λ (x : ℕ). Backwards (Before least) kernel height (lane ws₀ from width x)) (backwardAt kernel height) to width height y at ws₀ ws t₀ t
 
 abbrev μ-loop : tie.MeasureT-loop
-μ-loop ws₀ from to kernel width height side t₀ y₀ at₀ ws t y at = y
+μ-loop ws₀ from to kernel width height least t₀ y₀ at₀ ws t y at = y
 
 mul-at : tie.Need-mul-at Inv-loop μ-loop
 mul-at c = omega arith
@@ -71,7 +71,7 @@ loop-again c =
     let joined = called .before .before .before in
     let in-loop = joined .before in
     let start = in-loop .before .before .before in
-    backward-copy (order (start .args .side)) _ (start .pre .kernel) _ _ _ _ (start .pre .apart) _ _ (in-loop .before .loop .inv) (in-loop .loop-test .taken)
+    backward-copy (order (start .args .least)) _ (start .pre .kernel) _ _ _ _ (start .pre .apart) _ _ (in-loop .before .loop .inv) (in-loop .loop-test .taken)
     (⊎-elim (λ w. inl (w .0 .taken)) (λ w. inr (eqb-true _ _ (sym (w .1) ∙ called .before .before .if2 .taken))) (joined .if1 .came))
     (called .copy-lanes .ensures)
 
@@ -122,7 +122,7 @@ meet-lanes-requires c κs =
       left = omega arith;
       right = omega arith;
       target = omega arith;
-      left-apart = record { sides = inr (omega arith) };
+      left-apart = record { clear = inr (omega arith) };
       right-apart = apart-within _ _ _ _ (pre .apart) (omega arith) (omega arith) (omega arith) (omega arith);
       room = up-room (pre .room) (in-loop .before .loop .inv) (in-loop .loop-test .taken) test;
     }
@@ -136,7 +136,7 @@ loop-again-2 c =
     let else2 = called .before .before in
     let in-loop = else2 .before .before in
     let start = in-loop .before .before .before in
-    backward-meet (order (start .args .side)) _ (start .pre .kernel) _ _ _ _ (start .pre .apart) _ _ (in-loop .before .loop .inv) (in-loop .loop-test .taken)
+    backward-meet (order (start .args .least)) _ (start .pre .kernel) _ _ _ _ (start .pre .apart) _ _ (in-loop .before .loop .inv) (in-loop .loop-test .taken)
     (neither else2 .0)
     (neither else2 .1)
     (called .meet-lanes .ensures .row)

@@ -1,4 +1,4 @@
--- `extreme` meets its contract: each side has its own comparison. Assumes nothing.
+-- `extreme` meets its contract: each least has its own comparison. Assumes nothing.
 use borrow.Author.Needs.{needs}
 use Rattle.imgproc.proofs.morphology.sweeps.extreme.Statement.{statement}
 use Rattle.imgproc.proofs.morphology.sweeps.extreme.Tie as tie

@@ -13,11 +13,11 @@ use Rattle.imgproc.proofs.morphology.sweeps.forward_pass.Statement.{sta
 use Rattle.imgproc.proofs.morphology.sweeps.forward_pass.Tie as tie
 
 abbrev Inv-loop : tie.InvT-loop
-Inv-loop ws₀ from to kernel width height side t₀ next₀ below₀ ws t next below =
-    Downward (λ (x : ℕ). Forwards (Before side) kernel (lane ws₀ from width x)) (forwardAt kernel) to width height next below ws₀ ws t₀ t
+Inv-loop ws₀ from to kernel width height least t₀ next₀ below₀ ws t next below =
+    Downward (λ (x : ℕ). Forwards (Before least) kernel (lane ws₀ from width x)) (forwardAt kernel) to width height next below ws₀ ws t₀ t
 
 abbrev μ-loop : tie.MeasureT-loop
-μ-loop ws₀ from to kernel width height side t₀ next₀ below₀ ws t next below = height - next
+μ-loop ws₀ from to kernel width height least t₀ next₀ below₀ ws t next below = height - next
 
 loop-holds : tie.Need-loop-holds Inv-loop μ-loop
 loop-holds c = down-none
@@ -57,7 +57,7 @@ loop-again c =
     let called = c .before .before in
     let in-loop = called .before .before .before in
     let start = in-loop .before .before .before in
-    forward-copy (order (start .args .side)) _ (start .pre .kernel) _ _ _ _ (start .pre .apart) _ _ (in-loop .before .loop .inv) (in-loop .loop-test .taken)
+    forward-copy (order (start .args .least)) _ (start .pre .kernel) _ _ _ _ (start .pre .apart) _ _ (in-loop .before .loop .inv) (in-loop .loop-test .taken)
     (called .before .before .if1 .taken)
     (called .copy-lanes .ensures)
 
@@ -89,7 +89,7 @@ meet-lanes-requires c κs =
       left = omega arith;
       right = omega arith;
       target = omega arith;
-      left-apart = record { sides = inl (omega arith) };
+      left-apart = record { clear = inl (omega arith) };
       right-apart = apart-within _ _ _ _ (pre .apart) (omega arith) (omega arith) (omega arith) (omega arith);
       room = down-room (pre .room) (in-loop .before .loop .inv) (in-loop .loop-test .taken);
     }
@@ -102,7 +102,7 @@ loop-again-2 c =
     let called = c .before .before in
     let in-loop = called .before .before .before in
     let start = in-loop .before .before .before in
-    forward-meet (order (start .args .side)) _ (start .pre .kernel) _ _ _ _ (start .pre .apart) _ _ (in-loop .before .loop .inv) (in-loop .loop-test .taken)
+    forward-meet (order (start .args .least)) _ (start .pre .kernel) _ _ _ _ (start .pre .apart) _ _ (in-loop .before .loop .inv) (in-loop .loop-test .taken)
     (called .before .before .if1 .left)
     (called .meet-lanes .ensures .row)
     (called .meet-lanes .ensures .counted)

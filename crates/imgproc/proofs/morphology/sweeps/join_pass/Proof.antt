@@ -2,7 +2,7 @@
 use Prim.Native.Nat.{ℕ, _+_, _-_, _*_, _≤_}
 use native.Mathlib.Omega.{arith}
 use Rattle.imgproc.specs.Reach.{joinAt}
-use Rattle.imgproc.specs.Compared.{first}
+use Rattle.imgproc.specs.Compared.{extreme}
 use Rattle.imgproc.specs.Sweeps.{lane, Joins}
 use Rattle.imgproc.proofs.morphology.sweeps.Lanes.{apart-within, line-order, Downward, down-none, down-room, down-fits, down-all}
 use Rattle.imgproc.proofs.morphology.sweeps.Passes.{join-line}
@@ -11,11 +11,11 @@ use Rattle.imgproc.proofs.morphology.sweeps.join_pass.Statement.{statem
 use Rattle.imgproc.proofs.morphology.sweeps.join_pass.Tie as tie
 
 abbrev Inv-loop : tie.InvT-loop
-Inv-loop ws₀ suffix prefix to kernel width height side radius t₀ y₀ at₀ ws t y at =
-    Downward (λ (x : ℕ). Joins (first side) kernel height (lane ws₀ suffix width x) (lane ws₀ prefix width x)) joinAt to width height y at ws₀ ws t₀ t
+Inv-loop ws₀ suffix prefix to kernel width height least radius t₀ y₀ at₀ ws t y at =
+    Downward (λ (x : ℕ). Joins (extreme least) kernel height (lane ws₀ suffix width x) (lane ws₀ prefix width x)) joinAt to width height y at ws₀ ws t₀ t
 
 abbrev μ-loop : tie.MeasureT-loop
-μ-loop ws₀ suffix prefix to kernel width height side radius t₀ y₀ at₀ ws t y at = height - y
+μ-loop ws₀ suffix prefix to kernel width height least radius t₀ y₀ at₀ ws t y at = height - y
 
 sub-radius : tie.Need-sub-radius Inv-loop μ-loop
 sub-radius c = search needs
@@ -90,7 +90,7 @@ loop-again c =
     let highs = called .before .before in
     let in-loop = highs .before .before in
     let start = in-loop .before .before .before in
-    join-line (first (start .args .side)) _ _ _ _ _ _ (start .pre .left-apart) (start .pre .right-apart) _ _ (in-loop .before .loop .inv)
+    join-line (extreme (start .args .least)) _ _ _ _ _ _ (start .pre .left-apart) (start .pre .right-apart) _ _ (in-loop .before .loop .inv)
     (in-loop .loop-test .taken)
     (highs .before .low-of .ensures)
     (highs .high-of .ensures)

@@ -4,7 +4,7 @@ use mathlib.Core.Path.{refl, _∙_}
 use native.Mathlib.Omega.{arith}
 use lib.ListN.{getD}
 use Rattle.imgproc.specs.Tallies.{Raised, raised-none, raised-twice, raised-as, room-left}
-use Rattle.imgproc.specs.Compared.{first}
+use Rattle.imgproc.specs.Compared.{extreme}
 use Rattle.imgproc.specs.Sweeps.{Rowed}
 use Rattle.imgproc.proofs.morphology.sweeps.Lanes.{row-none, row-more, row-apart, row-all}
 use borrow.Author.Needs.{needs}
@@ -12,13 +12,13 @@ use Rattle.imgproc.proofs.morphology.sweeps.meet_lanes.Statement.{state
 use Rattle.imgproc.proofs.morphology.sweeps.meet_lanes.Tie as tie
 
 abbrev Inv-loop : tie.InvT-loop
-Inv-loop ws₀ a b to lanes side t₀ x₀ ws t x =
+Inv-loop ws₀ a b to lanes least t₀ x₀ ws t x =
     (x ≤ lanes)
-    × Rowed to x (λ (j : ℕ). first side (getD ws₀ (a + j) 0) (getD ws₀ (b + j) 0)) ws₀ ws
+    × Rowed to x (λ (j : ℕ). extreme least (getD ws₀ (a + j) 0) (getD ws₀ (b + j) 0)) ws₀ ws
     × Raised t₀ x t
 
 abbrev μ-loop : tie.MeasureT-loop
-μ-loop ws₀ a b to lanes side t₀ x₀ ws t x = lanes - x
+μ-loop ws₀ a b to lanes least t₀ x₀ ws t x = lanes - x
 
 loop-holds : tie.Need-loop-holds Inv-loop μ-loop
 loop-holds c = (omega arith, row-none _ _ _, raised-none refl)

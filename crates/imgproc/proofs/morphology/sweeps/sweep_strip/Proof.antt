@@ -31,8 +31,8 @@ running-extremum-1d-requires c κs =
       source = omega arith;
       target = omega arith;
       scratch = omega arith;
-      source-apart = record { sides = inl (omega arith) };
-      target-apart = record { sides = inl (omega arith) };
+      source-apart = record { clear = inl (omega arith) };
+      target-apart = record { clear = inl (omega arith) };
       kernel = pre .kernel;
       room = room-part (pre .room) (omega arith);
     }
