@@ -5,6 +5,7 @@ pub mod illumination;
 pub mod judging;
 pub mod morphology;
 mod query;
+mod reach;
 pub mod reading;
 mod rect;
 pub mod root;
