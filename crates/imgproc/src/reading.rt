@@ -2,8 +2,6 @@
 pub mod config;
 pub mod judging;
 
-pub use config::ReadingConfig;
-
 use crate::Check;
 use crate::ImgProcError;
 use crate::grid::bytes::write_skips;
@@ -14,6 +12,7 @@ use crate::morphology::rect::open_rect_into;
 use crate::morphology::tally::Tally;
 use crate::morphology::tally::start;
 use crate::reading::judging::judge_picture;
+pub use config::ReadingConfig;
 use image::Geometry;
 use image::Layout;
 ghost use mathlib.Core.Path.{_≡_};
