@@ -4,7 +4,7 @@ use native.Mathlib.Omega.{arith}
 use Rattle.imgproc.specs.Reach.{joinAt}
 use Rattle.imgproc.specs.Compared.{extreme}
 use Rattle.imgproc.specs.Sweeps.{lane, Joins}
-use Rattle.imgproc.proofs.morphology.sweeps.Lanes.{apart-within, line-order, Downward, down-none, down-room, down-fits, down-all}
+use Rattle.imgproc.proofs.morphology.Lanes.{apart-within, line-order, Downward, down-none, down-room, down-fits, down-all}
 use Rattle.imgproc.proofs.morphology.sweeps.Passes.{join-line}
 use borrow.Author.Needs.{needs}
 use Rattle.imgproc.proofs.morphology.sweeps.join_pass.Statement.{statement}
