@@ -1,5 +1,4 @@
 -- The laws that the proofs of this crate share.
 pub mod Ways
 pub mod Places
-pub mod Copies
 pub mod Rooms
