@@ -1,7 +1,4 @@
--- The laws that the proofs of this crate share.
+-- The laws that several proofs of this crate cite. What one proof alone needs stands beside it.
 pub mod Bytes
-pub mod Sides
-pub mod Texts
-pub mod Headers
 pub mod Places
 pub mod Lines
