@@ -46,7 +46,7 @@ headerLimit = 13
 abbrev pub longest : ℕ
 longest = headerLimit + sideLimit * sideLimit
 
--- the first bytes of an input that tell whether it is a picture, and which: one more than any picture has, 3,614
+-- how many first bytes of an input tell whether it is a picture, and which: one more than any picture has, 3,614
 abbrev pub inputLimit : ℕ
 inputLimit = longest + 1
 

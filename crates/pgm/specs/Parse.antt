@@ -31,7 +31,7 @@ sought input (suc n) =
     let w = n / sides in
     let h = n % sides in cond (formed input w h) (Picture w h (length (header w h))) (sought input n)
 
--- the sides of which the input is a picture, and where its pixels start; Malformed where it is a picture of no sides
+-- the sides of which the input is a picture, and where its pixels start; Malformed where there are no such sides
 unfoldable pub parsedOf : List ℕ → Parsed
 unfolding sought
 parsedOf input = sought input (sides * sides)

@@ -1,5 +1,5 @@
 // The input and the answer of a program on grey pictures, as bytes. A picture comes as "P5 w h 255", a line feed and
-// w × h bytes, and no other form is taken; an answer is one line of decimal text. No public call has a condition.
+// w × h bytes, and any other form is refused; an answer is one line of decimal text. No public call has a condition.
 ghost use Prim.Native.Nat.{_+_, _≤_};
 ghost use mathlib.Core.Path.{_≡_};
 ghost use mathlib.Core.List.{[], _∷_, _++_};
