@@ -1,4 +1,3 @@
 -- The laws that several proofs of this crate cite. What one proof alone needs stands beside it.
-pub mod Bytes
 pub mod Places
 pub mod Lines

@@ -1,4 +1,4 @@
--- `answer_and_mark` lends workspaces that are long enough for any picture, so only the program's line can come out. Assumes nothing.
+-- `answer_and_mark` lends buffers that are long enough for any picture, so it answers with the program's line. Assumes nothing.
 use borrow.Author.Needs.{needs}
 use native.Mathlib.Omega.{arith}
 use Rattle.answer.proofs.answer_and_mark.Proof.Whole.{whole}

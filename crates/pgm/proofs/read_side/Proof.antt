@@ -7,6 +7,7 @@ use denote.Ref.{now}
 use Rattle.pgm.proofs.read_side.Proof.Sides.{no-side, one-is, two-read}
 use Rattle.pgm.proofs.read_side.Statement.{statement}
 use Rattle.pgm.proofs.read_side.Tie as tie
+mod Bytes
 mod Sides
 
 digit-at-requires : tie.Need-digit-at-requires

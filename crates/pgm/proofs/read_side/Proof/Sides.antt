@@ -10,7 +10,7 @@ use Rattle.pgm.specs.Decimal.{digit, decimal}
 use Rattle.pgm.specs.DecimalLaws.{small-or, decimal-one, decimal-two}
 use Rattle.pgm.specs.Form.{sideLimit}
 use Rattle.pgm.specs.Steps.{ReadsSide}
-use Rattle.pgm.proofs.Bytes.{inside, from, stands-at, goes-on}
+use Rattle.pgm.proofs.read_side.Proof.Bytes.{inside, from, stands-at, goes-on}
 
 -- the code counts places from `at`: the bytes after the first are at + 1 and at + 2
 next-but-one : (at : ℕ) → at + 1 + 1 ≡ at + 2
