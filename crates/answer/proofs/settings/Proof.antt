@@ -27,16 +27,16 @@ defaults d g s p q r =
 default-requires : tie.Need-default-requires
 default-requires c κs = search needs
 
-default-config-requires : tie.Need-default-config-requires
-default-config-requires c κs = search needs
-
 default-requires-2 : tie.Need-default-requires-2
 default-requires-2 c κs = search needs
 
+default-requires-3 : tie.Need-default-requires-3
+default-requires-3 c κs = search needs
+
 returns : tie.Need-returns
 returns c =
-    defaults _ _ _ (c .before .before .default .ensures) (c .before .default-config .ensures) (c .default2 .ensures)
+    defaults _ _ _ (c .before .before .default .ensures) (c .before .default2 .ensures) (c .default3 .ensures)
 
 pub settings-spec : {M : Type 1} → statement M
 settings-spec =
-    tie.close (tie.spec default-requires default-config-requires default-requires-2 returns)
+    tie.close (tie.spec default-requires default-requires-2 default-requires-3 returns)
