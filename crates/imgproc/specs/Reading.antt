@@ -7,7 +7,7 @@ use mathlib.Core.List.{List}
 use lib.ListN.{length}
 use Rattle.image.specs.declared.Geometry.{Geometry}
 use Rattle.image.specs.Answers.{Answer, accepted, refused}
-use Rattle.image.specs.Plane.{plane, painted, picture}
+use Rattle.image.specs.Plane.{plane, picture, paintedOn}
 use Rattle.imgproc.specs.declared.reading.config.ReadingConfig.{ReadingConfig}
 use Rattle.imgproc.specs.declared.reading.ReadingCounts.{ReadingCounts}
 use Rattle.imgproc.specs.declared.reading.judging.Judgement.{Judgement}
@@ -173,7 +173,7 @@ numbersFrom lent = let g = lent .source in readingOf (lent .settings) (g .width)
 abbrev pub marksFrom : ReadingLent → List ℕ
 marksFrom lent =
     let g = lent .source in
-    painted (marked (lent .settings) (g .width) (g .height) (picture (lent .src) g)) (g .width) (g .height) (lent .target .stride) (lent .dst)
+    paintedOn (lent .dst) (lent .target) (marked (lent .settings) (g .width) (g .height) (picture (lent .src) g))
 
 -- a reading by a list of conditions: its answer, the destination's bytes, and both workspaces
 pub record ReadsBy (cs : Conditions) (lent : ReadingLent) (answer : Answer ReadingNumbers) (left : ReadingLeft) : Type 0 where

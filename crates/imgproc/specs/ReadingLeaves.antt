@@ -9,13 +9,14 @@ use lib.Dec.{ltb}
 use lib.ListN.{length, getD}
 use borrow.Author.Tests.{ltb-true}
 use Rattle.image.specs.LayoutLaws.{row-within}
-use Rattle.image.specs.Plane.{pixel, packed}
+use Rattle.image.specs.Plane.{pixel, packed, painted}
 use Rattle.image.specs.PlaneLaws.{pixel-plane, same-pixels}
 use Rattle.image.specs.PaintLaws.{length-painted, painted-byte, painted-pixel}
+use Rattle.image.specs.Views.{painted-sides}
 use Rattle.imgproc.specs.declared.reading.config.ReadingConfig.{ReadingConfig}
 use Rattle.imgproc.specs.declared.reading.judging.Judgement.{Judgement}
 use Rattle.imgproc.specs.declared.reading.judging.Judgement.the-variants.{Dark, Light, Skipped}
-use Rattle.imgproc.specs.Reading.{judged, readingOf, byteOf, marked, marksFrom}
+use Rattle.imgproc.specs.Reading.{judged, readingOf, byteOf, marked}
 use Rattle.imgproc.specs.ReadingMeans.{AcceptedReading, settingsOf, wide, high, sourceOf, judgedHere, said, pair, numbers-are}
 
 module _ (a : AcceptedReading) where
@@ -23,8 +24,12 @@ module _ (a : AcceptedReading) where
   abbrev stride : ℕ
   stride = a .lent .target .stride
 
-  left-is : a .left .dst ≡ marksFrom (a .lent)
-  left-is = a .reads .leaves ∙ rw (said a .0)
+  -- the marks are painted by the sides of its source
+  left-is : a .left .dst
+      ≡ painted (marked (settingsOf a) (wide a) (high a) (sourceOf a)) (wide a) (high a) stride (a .lent .dst)
+  left-is =
+      a .reads .leaves
+      ∙ rw (said a .0) (sym (painted-sides (a .lent .dst) (a .lent .target) _ (sym (pair a .wide)) (sym (pair a .high))))
 
   -- each pixel of the rows holds the byte of its judgement
   pub pixel-holds : (x y : ℕ) → x < wide a → y < high a

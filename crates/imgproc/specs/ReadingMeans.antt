@@ -20,8 +20,8 @@ use Rattle.imgproc.specs.declared.ImgProcError.the-variants.{InvalidKern
 use Rattle.imgproc.specs.declared.Check.the-variants.{Accepted}
 use Rattle.imgproc.specs.Reach.{R}
 use Rattle.imgproc.specs.Refusals.{first, _then_, refusedIf, pairConditions, badKernel, divisionSettings, sauvolaSettings}
-use Rattle.imgproc.specs.RefusalLaws.{both-accepted, taken, not-refused, kernel-says, division-says, Pair, pair-says}
-use Rattle.imgproc.specs.Calls.{Loan, Left, Serves, conditionsOf}
+use Rattle.imgproc.specs.RefusalLaws.{both-accepted, taken, not-refused, kernel-says, division-says, pair-says}
+use Rattle.imgproc.specs.Calls.{Loan, Left, Serves, conditionsOf, Paired}
 use Rattle.imgproc.specs.MorphologyCalls.{opening, closing}
 use Rattle.imgproc.specs.MorphologyLaws.{operation-walks}
 use Rattle.imgproc.specs.Grid.{skipOf}
@@ -161,7 +161,7 @@ module _ (a : AcceptedReading) where
       let pairs = pairConditions (length (a .lent .src)) (a .lent .source) (length (a .lent .dst)) (a .lent .target) in
       let p = both-accepted pairs (readingSettings settingsOf then room) (said .0) in (p .0, both-accepted (readingSettings settingsOf) room (p .1) .0)
 
-  pub pair : Pair (length (a .lent .src)) (a .lent .source) (length (a .lent .dst)) (a .lent .target)
+  pub pair : Paired (length (a .lent .src)) (a .lent .source) (length (a .lent .dst)) (a .lent .target)
   pair = pair-says (length (a .lent .src)) (a .lent .source) (length (a .lent .dst)) (a .lent .target) (parts .0)
 
   -- ---- its numbers

@@ -31,6 +31,7 @@ use Rattle.imgproc.specs.Refusals.{
   badKernel,
   divisionSettings,
 }
+use Rattle.imgproc.specs.Calls.{Paired}
 
 never : (e : ImgProcError) → Refused e ≡ Accepted → ⊥
 never e p = let z : _≡_ {A = ℕ} 0 1 = cc in omega arith
@@ -171,15 +172,9 @@ pair-taken {srcLen} {src} {dstLen} {dst} s d w h =
     ∙ then-accepted (viewConditions dstLen dst) last (view-accepted dstLen dst (kept-valid d))
     ∙ passes-last _ _ (rw (eq-eqb (src .width) (dst .width) w, eq-eqb (src .height) (dst .height) h))
 
--- what an accepted pair says: each slice holds its picture, and the sizes are equal
-pub record Pair (srcLen : ℕ) (src : Geometry) (dstLen : ℕ) (dst : Geometry) : Type 0 where
-  pub from : Kept srcLen src
-  pub to : Kept dstLen dst
-  pub wide : src .width ≡ dst .width
-  pub high : src .height ≡ dst .height
-
+-- what an accepted pair says
 pub pair-says : (srcLen : ℕ) (src : Geometry) (dstLen : ℕ) (dst : Geometry)
-    → first (pairConditions srcLen src dstLen dst) ≡ Accepted → Pair srcLen src dstLen dst
+    → first (pairConditions srcLen src dstLen dst) ≡ Accepted → Paired srcLen src dstLen dst
 pair-says srcLen src dstLen dst p =
     let sizes = eqb (src .width) (dst .width) && eqb (src .height) (dst .height) in
     let last = refusedIf (not sizes) DimensionMismatch in

@@ -13,8 +13,8 @@ ghost use lib.ListN.{length, getD};
 ghost use Rattle.image.specs.Layout.{Kept};
 ghost use Rattle.image.specs.Plane.{part, picture, overwritten, tabulate};
 ghost use Rattle.imgproc.specs.Refusals.{first, divisionSettings};
-ghost use Rattle.imgproc.specs.Division.{divisionDefaults, quotient, dividedBy, FlattenReady, Flattened, DivideReady, Divided, division};
-ghost use Rattle.imgproc.specs.Calls.{Serves};
+ghost use Rattle.imgproc.specs.Division.{divisionDefaults, quotient, dividedBy, FlattenReady, Flattened, DivideReady, division};
+ghost use Rattle.imgproc.specs.Calls.{Serves, Works};
 ghost use Rattle.imgproc.specs.MorphologyCalls.{comparedAnswer};
 
 pub struct BackgroundDivideConfig {
@@ -120,8 +120,31 @@ fn divide_picture(
     config: BackgroundDivideConfig,
     workspace: &mut [u8],
 ) -> Tally
-    requires { ⌜ DivideReady (now src) «src_geometry» (now dst) «dst_geometry» config (now workspace) ⌝ }
-    ensures { λ n. ⌜ Divided (now (src .entry)) «src_geometry» (now (dst .entry)) «dst_geometry» config (now (workspace .entry)) n (now (dst .exit)) (now (workspace .exit)) ⌝ }
+    requires { ⌜
+        DivideReady
+        (record {
+          src = now src;
+          source = «src_geometry»;
+          dst = now dst;
+          target = «dst_geometry»;
+          settings = config;
+          workspace = now workspace;
+        })
+        ⌝ }
+    ensures { λ n.
+        ⌜
+        Works division
+        (record {
+          src = now (src .entry);
+          source = «src_geometry»;
+          dst = now (dst .entry);
+          target = «dst_geometry»;
+          settings = config;
+          workspace = now (workspace .entry);
+        })
+        n
+        (record { dst = now (dst .exit); workspace = now (workspace .exit) })
+        ⌝ }
 {
     let plane = src_geometry.width * src_geometry.height;
     let tally = flatten(start(), src, src_geometry, config, workspace);

@@ -12,8 +12,9 @@ use crate::morphology::tally::Tally;
 use crate::morphology::tally::start;
 use image::Geometry;
 use image::Layout;
-ghost use Rattle.imgproc.specs.MorphologyCalls.{OperateReady, Operated, CountReady, Counts, RunReady, Runs, comparedAnswer, morphology, erosion, dilation, opening, closing};
-ghost use Rattle.imgproc.specs.Calls.{Serves};
+ghost use Rattle.imgproc.specs.MorphologyCalls.{OperateReady, Operated, CountReady, Counts, RunReady};
+ghost use Rattle.imgproc.specs.MorphologyCalls.{comparedAnswer, morphology, erosion, dilation, opening, closing};
+ghost use Rattle.imgproc.specs.Calls.{Serves, Works};
 
 enum Operation {
     Erode,
@@ -83,8 +84,31 @@ fn run(
     operation: Operation,
     workspace: &mut [u8],
 ) -> Tally
-    requires { ⌜ RunReady (now src) «src_geometry» (now dst) «dst_geometry» kernel (now workspace) ⌝ }
-    ensures { λ n. ⌜ Runs operation (now (src .entry)) «src_geometry» (now (dst .entry)) «dst_geometry» kernel (now (workspace .entry)) n (now (dst .exit)) (now (workspace .exit)) ⌝ }
+    requires { ⌜
+        RunReady
+        (record {
+          src = now src;
+          source = «src_geometry»;
+          dst = now dst;
+          target = «dst_geometry»;
+          settings = kernel;
+          workspace = now workspace;
+        })
+        ⌝ }
+    ensures { λ n.
+        ⌜
+        Works (morphology operation)
+        (record {
+          src = now (src .entry);
+          source = «src_geometry»;
+          dst = now (dst .entry);
+          target = «dst_geometry»;
+          settings = kernel;
+          workspace = now (workspace .entry);
+        })
+        n
+        (record { dst = now (dst .exit); workspace = now (workspace .exit) })
+        ⌝ }
 {
     let width = src_geometry.width;
     let height = src_geometry.height;

@@ -2,8 +2,6 @@
 pub mod config;
 pub mod judging;
 
-pub use config::ReadingConfig;
-
 use crate::Check;
 use crate::ImgProcError;
 use crate::grid::bytes::write_skips;
@@ -14,6 +12,7 @@ use crate::morphology::rect::open_rect_into;
 use crate::morphology::tally::Tally;
 use crate::morphology::tally::start;
 use crate::reading::judging::judge_picture;
+pub use config::ReadingConfig;
 use image::Geometry;
 use image::Layout;
 ghost use mathlib.Core.Path.{_≡_};
@@ -79,8 +78,33 @@ fn read_picture(
     bytes: &mut [u8],
     words: &mut [u64],
 ) -> ReadingCounts
-    requires { ⌜ ReadReady (now src) «src_geometry» (now dst) «dst_geometry» config (now bytes) (now words) ⌝ }
-    ensures { λ r. ⌜ ReadDone (now (src .entry)) «src_geometry» (now (dst .entry)) «dst_geometry» config (now (bytes .entry)) (now (words .entry)) r (now (dst .exit)) (now (bytes .exit)) (now (words .exit)) ⌝ }
+    requires { ⌜
+        ReadReady
+        (record {
+          src = now src;
+          source = «src_geometry»;
+          dst = now dst;
+          target = «dst_geometry»;
+          settings = config;
+          bytes = now bytes;
+          words = now words;
+        })
+        ⌝ }
+    ensures { λ r.
+        ⌜
+        ReadDone
+        (record {
+          src = now (src .entry);
+          source = «src_geometry»;
+          dst = now (dst .entry);
+          target = «dst_geometry»;
+          settings = config;
+          bytes = now (bytes .entry);
+          words = now (words .entry);
+        })
+        r
+        (record { dst = now (dst .exit); bytes = now (bytes .exit); words = now (words .exit) })
+        ⌝ }
 {
     let packed = Geometry {
         width: src_geometry.width,

@@ -29,12 +29,21 @@ use Rattle.imgproc.specs.Tables.{Tables}
 use Rattle.imgproc.proofs.grid.bytes.Tables.{skips-are}
 
 -- ---- flattened and opened
-module _ (tally : Tally) (src : List ℕ) (g : Geometry) (s : ReadingConfig) (ws : List ℕ) (ready : OpenReady tally src g s ws) where
+module _ {tally : Tally} {src : List ℕ} {g : Geometry} {s : ReadingConfig} {ws : List ℕ} (ready : OpenReady tally src g s ws) where
   pub flat-ready : FlattenReady tally src g (s .division) ws
-  flat-ready = record { from = ready .from; kernel = ready .element; floor = ready .floor; fits = ready .fits; room = room-part (ready .room) (omega arith) }
+  flat-ready = record {
+    from = ready .from;
+    kernel = ready .element;
+    floor = ready .floor;
+    fits = ready .fits;
+    room = room-part (ready .room) (omega arith);
+  }
 
-  module _ (raised : Tally) (first : List ℕ) (flat : Flattened tally src g (s .division) ws raised first) where
-    pub open-ready : TwiceReady raised first (g .width * g .height) 0 (2 * (g .width * g .height)) (s .«opening_kernel») (g .width) (g .height)
+  module _ {raised : Tally} {first : List ℕ} (flat : Flattened tally src g (s .division) ws raised first) where
+    abbrev plane : ℕ
+    plane = g .width * g .height
+
+    pub open-ready : TwiceReady raised first plane 0 (2 * plane) (s .«opening_kernel») (g .width) (g .height)
     open-ready =
         let across = lines-walks-le (s .division .«structuring_element») (g .width) (g .height) in
         let down = lines-walks-le (s .division .«structuring_element») (g .height) (g .width) in
@@ -53,7 +62,9 @@ module _ (tally : Tally) (src : List ℕ) (g : Geometry) (s : ReadingConfig) (ws
           room = room-left (ready .room) (flat .counted) (omega arith);
         }
 
-    pub opened-is : {r : Tally} {second : List ℕ} → TwiceMorphed opened raised first (g .width * g .height) 0 (2 * (g .width * g .height)) (s .«opening_kernel») (g .width) (g .height) r second → Opened tally src g s ws r second
+    pub opened-is : {r : Tally} {second : List ℕ}
+        → TwiceMorphed opened raised first plane 0 (2 * plane) (s .«opening_kernel») (g .width) (g .height) r second
+        → Opened tally src g s ws r second
     opened-is o = record {
       leaves = o .leaves ∙ ap (opened (s .«opening_kernel») (g .width) (g .height)) (flat .leaves);
       counted = raised-twice (flat .counted) (o .counted) refl;

@@ -108,7 +108,7 @@ fn judge_rows(
 ) -> Judged
     requires { ⌜ JudgeReady (now opened) packed (now skips) (now workspace) at config ⌝ }
     requires { ⌜ Kept (length (now dst)) «dst_geometry» × ((«dst_geometry» .width ≡ packed .width) × («dst_geometry» .height ≡ packed .height)) ⌝ }
-    ensures { λ r. ⌜ PictureJudged config packed (now (opened .entry)) (now (dst .entry)) («dst_geometry» .stride) r (now (dst .exit)) ⌝ }
+    ensures { λ r. ⌜ PictureJudged config packed (now (opened .entry)) (now (dst .entry)) «dst_geometry» r (now (dst .exit)) ⌝ }
 {
     let mut counts = Judged {
         dark: 0,
@@ -146,7 +146,7 @@ pub(crate) fn judge_picture(
 ) -> Judged
     requires { ⌜ JudgeRoom packed config (now bytes) (now words) ⌝ }
     requires { ⌜ Kept (length (now dst)) «dst_geometry» × ((«dst_geometry» .width ≡ packed .width) × («dst_geometry» .height ≡ packed .height)) ⌝ }
-    ensures { λ r. ⌜ PictureJudged config packed (part 0 (packed .width * packed .height) (now (bytes .entry))) (now (dst .entry)) («dst_geometry» .stride) r (now (dst .exit)) ⌝ }
+    ensures { λ r. ⌜ PictureJudged config packed (part 0 (packed .width * packed .height) (now (bytes .entry))) (now (dst .entry)) «dst_geometry» r (now (dst .exit)) ⌝ }
 {
     let plane = packed.width * packed.height;
     let grid = config.grid;
