@@ -1,5 +1,5 @@
--- A call from picture to picture: what it is lent, what is left of that, and what its contract says; and, inside, what the
--- work of an accepted call asks and leaves. Definitions only.
+-- A call from picture to picture: what it is lent, what is left of that, and what its contract says; and, inside, what
+-- the work of an accepted call asks and leaves. Definitions only.
 use Prim.Native.Nat.{ℕ}
 use mathlib.Core.Path.{_≡_}
 use mathlib.Core.List.{List}

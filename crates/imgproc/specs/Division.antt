@@ -40,14 +40,16 @@ division =
 -- ---- inside: what the parts of an accepted call ask and leave
 
 -- a picture that is packed into the first plane of the workspace, closed and divided in the second
-pub record FlattenReady (tally : Tally) (src : List ℕ) (g : Geometry) (d : BackgroundDivideConfig) (ws : List ℕ) : Type 0 where
+pub record FlattenReady (tally : Tally) (src : List ℕ) (g : Geometry) (d : BackgroundDivideConfig) (ws : List ℕ)
+    : Type 0 where
   pub from : Kept (length src) g
   pub kernel : 0 < d .«structuring_element»
   pub floor : 0 < d .«denominator_floor»
   pub fits : 6 * (g .width * g .height) ≤ length ws
   pub room : HasRoom tally (12 * (g .width * g .height))
 
-pub record Flattened (tally : Tally) (src : List ℕ) (g : Geometry) (d : BackgroundDivideConfig) (ws : List ℕ) (raised : Tally) (ws′ : List ℕ) : Type 0 where
+pub record Flattened (tally : Tally) (src : List ℕ) (g : Geometry) (d : BackgroundDivideConfig) (ws : List ℕ)
+    (raised : Tally) (ws′ : List ℕ) : Type 0 where
   pub leaves : part (g .width * g .height) (g .width * g .height) ws′ ≡ divided d (g .width) (g .height) (picture src g)
   pub counted : Raised tally (2 * sweepWalks (d .«structuring_element») (g .width) (g .height)) raised
   pub long : length ws′ ≡ length ws

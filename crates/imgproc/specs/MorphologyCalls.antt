@@ -1,4 +1,5 @@
--- The contracts of the four morphology calls: what each answers, and what it leaves in the lent buffers. Definitions only.
+-- Document 01, part 2: the four morphology calls; and, inside, what the parts of an accepted one ask and leave.
+-- Definitions only.
 use Prim.Native.Nat.{ℕ, _*_, _^_, _≤_, _<_}
 use mathlib.Core.Path.{_≡_}
 use mathlib.Core.List.{List}
@@ -68,7 +69,8 @@ pub record OperateReady (tally : Tally) (d : List ℕ) (k w h : ℕ) : Type 0 wh
   pub wide : 0 < w
   pub room : HasRoom tally (12 * (w * h))
 
-pub record Operated (operation : Operation) (tally : Tally) (d : List ℕ) (k w h : ℕ) (raised : Tally) (d′ : List ℕ) : Type 0 where
+pub record Operated (operation : Operation) (tally : Tally) (d : List ℕ) (k w h : ℕ) (raised : Tally) (d′ : List ℕ)
+    : Type 0 where
   pub leaves : part (w * h) (w * h) d′ ≡ operated operation k w h (part 0 (w * h) d)
   pub counted : Raised tally (operationWalks operation k w h) raised
   pub long : length d′ ≡ length d

@@ -49,7 +49,8 @@ pub record Room (j : Judged) (n : ℕ) : Type 0 where
   pub skipped : j .skipped + n < 2 ^ 64
 
 -- the first n pixels of row y of the opened picture o judged: each byte, and each count raised by the pixels so judged
-pub record PixelsJudged (before : Judged) (s : ReadingConfig) (g : Geometry) (o : List ℕ) (y n : ℕ) (after : Judged) (out : List ℕ) : Type 0 where
+pub record PixelsJudged (before : Judged) (s : ReadingConfig) (g : Geometry) (o : List ℕ) (y n : ℕ)
+    (after : Judged) (out : List ℕ) : Type 0 where
   pub each : (x : ℕ) → x < n → getD out x 0 ≡ byteOf (s .sauvola) (judgedOver s (g .width) (g .height) o x y)
   pub dark : after .dark ≡ before .dark + walk (λ x. isDark (judgedOver s (g .width) (g .height) o x y)) n
   pub light : after .light ≡ before .light + walk (λ x. isLight (judgedOver s (g .width) (g .height) o x y)) n
@@ -65,11 +66,13 @@ unfolding judgedOver
 markedOver s w h o = plane w h (λ x y. byteOf (s .sauvola) (judgedOver s w h o x y))
 
 -- every pixel judged: the rows of the destination, and the three counts
-pub record PictureJudged (s : ReadingConfig) (g : Geometry) (o dst : List ℕ) (target : Geometry) (j : Judged) (dst′ : List ℕ) : Type 0 where
+pub record PictureJudged (s : ReadingConfig) (g : Geometry) (o dst : List ℕ) (target : Geometry)
+    (j : Judged) (dst′ : List ℕ) : Type 0 where
   pub leaves : dst′ ≡ paintedOn dst target (markedOver s (g .width) (g .height) o)
   pub dark : j .dark ≡ pixels (g .width) (g .height) (λ x y. isDark (judgedOver s (g .width) (g .height) o x y))
   pub light : j .light ≡ pixels (g .width) (g .height) (λ x y. isLight (judgedOver s (g .width) (g .height) o x y))
-  pub skipped : j .skipped ≡ pixels (g .width) (g .height) (λ x y. isSkipped (judgedOver s (g .width) (g .height) o x y))
+  pub skipped :
+      j .skipped ≡ pixels (g .width) (g .height) (λ x y. isSkipped (judgedOver s (g .width) (g .height) o x y))
 
 -- a picture flattened and opened in the workspace
 pub record OpenReady (tally : Tally) (src : List ℕ) (g : Geometry) (s : ReadingConfig) (ws : List ℕ) : Type 0 where
@@ -80,7 +83,8 @@ pub record OpenReady (tally : Tally) (src : List ℕ) (g : Geometry) (s : Readin
   pub fits : 6 * (g .width * g .height) ≤ length ws
   pub room : HasRoom tally (24 * (g .width * g .height))
 
-pub record Opened (tally : Tally) (src : List ℕ) (g : Geometry) (s : ReadingConfig) (ws : List ℕ) (raised : Tally) (ws′ : List ℕ) : Type 0 where
+pub record Opened (tally : Tally) (src : List ℕ) (g : Geometry) (s : ReadingConfig) (ws : List ℕ)
+    (raised : Tally) (ws′ : List ℕ) : Type 0 where
   pub leaves : part 0 (g .width * g .height) ws′ ≡ openedOf s (g .width) (g .height) (picture src g)
   pub counted :
       Raised tally
@@ -100,14 +104,18 @@ pub record MarkReady (g : Geometry) (s : ReadingConfig) (bytes words : List ℕ)
 
 pub record Marks (g : Geometry) (s : ReadingConfig) (bytes words bytes′ words′ : List ℕ) : Type 0 where
   pub opened : part 0 (g .width * g .height) bytes′ ≡ part 0 (g .width * g .height) bytes
-  pub skips : part (9 * (g .width * g .height)) (tilesX (s .grid) (g .width) * tilesY (s .grid) (g .height)) bytes′ ≡ skips (s .grid) (g .width) (g .height) (part 0 (g .width * g .height) bytes)
+  pub skips :
+      part (9 * (g .width * g .height)) (tilesX (s .grid) (g .width) * tilesY (s .grid) (g .height)) bytes′
+      ≡ skips (s .grid) (g .width) (g .height) (part 0 (g .width * g .height) bytes)
   pub bytes-long : length bytes′ ≡ length bytes
   pub words-long : length words′ ≡ length words
 
 -- the opened picture and its marks stand in the byte workspace, and the u64 workspace has room for the tables
 pub record JudgeRoom (g : Geometry) (s : ReadingConfig) (bytes words : List ℕ) : Type 0 where
   pub marks : MarkReady g s bytes words
-  pub skips : part (9 * (g .width * g .height)) (tilesX (s .grid) (g .width) * tilesY (s .grid) (g .height)) bytes ≡ skips (s .grid) (g .width) (g .height) (part 0 (g .width * g .height) bytes)
+  pub skips :
+      part (9 * (g .width * g .height)) (tilesX (s .grid) (g .width) * tilesY (s .grid) (g .height)) bytes
+      ≡ skips (s .grid) (g .width) (g .height) (part 0 (g .width * g .height) bytes)
   pub tables-fit : tableEntries (g .width) (g .height) ≤ length words
   pub settings : InRange (s .sauvola)
 
@@ -124,8 +132,10 @@ pub record Usable (s : ReadingConfig) : Type 0 where
 pub record ReadReady (lent : ReadingLent) : Type 0 where
   pub pair : Paired (length (lent .src)) (lent .source) (length (lent .dst)) (lent .target)
   pub settings : Usable (lent .settings)
-  pub bytes-fit : readingBytes (lent .settings .grid) (lent .source .width) (lent .source .height) ≤ length (lent .bytes)
-  pub words-fit : readingWords (lent .settings .grid) (lent .source .width) (lent .source .height) ≤ length (lent .words)
+  pub bytes-fit :
+      readingBytes (lent .settings .grid) (lent .source .width) (lent .source .height) ≤ length (lent .bytes)
+  pub words-fit :
+      readingWords (lent .settings .grid) (lent .source .width) (lent .source .height) ≤ length (lent .words)
 
 -- and what it leaves
 pub record ReadDone (lent : ReadingLent) (counts : ReadingCounts) (left : ReadingLeft) : Type 0 where

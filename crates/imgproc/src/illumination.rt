@@ -111,7 +111,7 @@ pub(crate) fn flatten(
     raised
 }
 
-// The work of an accepted call: one tally, started at 0, through the closing.
+// Does the work of an accepted call: one tally, started at 0, goes through the closing.
 fn divide_picture(
     src: &[u8],
     src_geometry: Geometry,

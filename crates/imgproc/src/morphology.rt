@@ -1,5 +1,5 @@
-// Erosion, dilation, opening and closing of grey pictures with an odd square kernel, from a strided source to a
-// strided destination.
+// Erodes, dilates, opens and closes grey pictures with an odd square kernel, from a strided source to a strided
+// destination.
 pub(crate) mod rect;
 mod sweeps;
 pub mod tally;
@@ -23,13 +23,13 @@ enum Operation {
     Close,
 }
 
-// The tally of the comparisons that a call made, or its refusal.
+// What a call answers: the tally of the comparisons that it made, or its refusal.
 pub enum Compared {
     Comparisons(Tally),
     Refused(ImgProcError),
 }
 
-// An operation on the first plane of the workspace, left in the second.
+// Operates on the first plane of the workspace, and leaves the picture in the second.
 fn operate(
     tally: Tally,
     ws: &mut [u8],
@@ -66,7 +66,7 @@ fn operate(
     }
 }
 
-// One tally, started at 0, through an operation.
+// Starts a tally at 0 and takes it through an operation.
 fn count(ws: &mut [u8], kernel: usize, width: usize, height: usize, operation: Operation) -> Tally
     requires { ⌜ CountReady (now ws) kernel width height ⌝ }
     ensures { λ n. ⌜ Counts operation (now (ws .entry)) kernel width height n (now (ws .exit)) ⌝ }
@@ -74,7 +74,7 @@ fn count(ws: &mut [u8], kernel: usize, width: usize, height: usize, operation: O
     operate(start(), ws, kernel, width, height, operation)
 }
 
-// The work of an accepted call: packed, operated on, painted.
+// Does the work of an accepted call: packs the source, operates on it and paints the destination.
 fn run(
     src: &[u8],
     src_geometry: Geometry,
@@ -118,7 +118,7 @@ fn run(
     tally
 }
 
-// What each call refuses, in order, and then its work.
+// Refuses a call by its conditions, in order, and else does its work.
 fn apply_into(
     src: &[u8],
     src_geometry: Geometry,
@@ -169,7 +169,7 @@ fn apply_into(
     Compared::Comparisons(run(src, g, dst, h, kernel_size, operation, workspace))
 }
 
-// Erosion: the minimum over each reach.
+// Erodes: takes the minimum over each reach.
 pub fn grayscale_erode_into(
     src: &[u8],
     src_geometry: Geometry,
@@ -204,7 +204,7 @@ pub fn grayscale_erode_into(
     )
 }
 
-// Dilation: the maximum over each reach.
+// Dilates: takes the maximum over each reach.
 pub fn grayscale_dilate_into(
     src: &[u8],
     src_geometry: Geometry,
@@ -239,7 +239,7 @@ pub fn grayscale_dilate_into(
     )
 }
 
-// Opening: erosion, then dilation.
+// Opens: erodes, then dilates.
 pub fn grayscale_open_into(
     src: &[u8],
     src_geometry: Geometry,
@@ -274,7 +274,7 @@ pub fn grayscale_open_into(
     )
 }
 
-// Closing: dilation, then erosion.
+// Closes: dilates, then erodes.
 pub fn grayscale_close_into(
     src: &[u8],
     src_geometry: Geometry,

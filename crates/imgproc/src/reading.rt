@@ -1,4 +1,5 @@
-// The reading: a picture flattened and opened, its low-contrast tiles skipped, and every other pixel judged by its threshold.
+// Reads a picture: flattens and opens it, skips its tiles of low contrast, and judges every other pixel by its
+// threshold.
 pub mod config;
 pub mod judging;
 
@@ -28,13 +29,13 @@ pub struct ReadingCounts {
     pub tally: Tally,
 }
 
-// The four counts of a reading, or its refusal.
+// What a reading answers: its four counts, or its refusal.
 pub enum Read {
     Counts(ReadingCounts),
     Refused(ImgProcError),
 }
 
-// The picture flattened in the second plane of the workspace, and opened into the first.
+// Flattens the picture in the second plane of the workspace, and opens it into the first.
 fn flatten_and_open(
     tally: Tally,
     src: &[u8],
@@ -68,7 +69,7 @@ fn mark_tiles(packed: Geometry, config: ReadingConfig, bytes: &mut [u8], words: 
     write_skips(words, 0, width, height, grid, bytes, 9 * plane);
 }
 
-// The work of an accepted reading: one tally, started at 0, through the closing and the opening.
+// Does the work of an accepted reading: one tally, started at 0, goes through the closing and the opening.
 fn read_picture(
     src: &[u8],
     src_geometry: Geometry,
@@ -122,7 +123,7 @@ fn read_picture(
     }
 }
 
-// Whether the settings are in range: the division's, the opening's kernel, the grid's, the threshold's.
+// Checks the settings: the division's, the opening's kernel, the grid's, the threshold's.
 pub(crate) fn check_settings(config: ReadingConfig) -> Check
     ensures { λ r. ⌜ r ≡ first (readingSettings config) ⌝ }
 {
@@ -143,7 +144,7 @@ pub(crate) fn check_settings(config: ReadingConfig) -> Check
     crate::threshold::check_settings(config.sauvola)
 }
 
-// Whether both workspaces hold a reading of the picture.
+// Checks that both workspaces have room for a reading of the picture.
 pub(crate) fn check_room(
     geometry: Geometry,
     config: ReadingConfig,
