@@ -1,7 +1,7 @@
 /*
  * The calls of imgproc.h that take settings, with a struct for each picture, each kind of settings and each answer, so
- * that every number has a name. Each call here is one call there: it answers the same number, refuses in the same
- * order, and wants the same of the pointers. For C99 and C++11.
+ * that every number has a name. Each call here makes one call there: it returns the same number, is refused in the same
+ * order, and asks the same of the pointers. For C99 and C++11.
  *
  *     struct imgproc_reading_settings settings = IMGPROC_READING_DEFAULTS;
  *     settings.opening_kernel = 5;
@@ -44,26 +44,26 @@ struct imgproc_words {
 /* Settings of imgproc_divide. */
 struct imgproc_division_settings {
     size_t structuring_element; /* kernel of the closing that gives the background: odd, at least 3 */
-    uint8_t target_luma;        /* what a pixel as bright as its background becomes */
+    uint8_t target_luma;        /* a pixel as bright as its background becomes this */
     uint8_t denominator_floor;  /* the background is raised to this where it is below: not 0 */
 };
 #define IMGPROC_DIVISION_DEFAULTS { 31, 200, 8 }
 
-/* How a tile's threshold is found. */
+/* The method that computes a tile's threshold. */
 enum imgproc_method {
     IMGPROC_MIDRANGE = 0, /* halfway between the neighbourhood's minimum and maximum */
     IMGPROC_SAUVOLA = 1   /* by Sauvola's formula, with k and dynamic_range */
 };
 
-/* Settings of imgproc_build_grid. The defaults have no k and dynamic_range: whoever sets IMGPROC_SAUVOLA sets these
-   too, or is refused. */
+/* Settings of imgproc_build_grid. The defaults set k and dynamic_range to 0: a call with IMGPROC_SAUVOLA is refused
+   unless dynamic_range is set too. */
 struct imgproc_grid_settings {
     size_t tile_width;          /* not 0 */
     size_t tile_height;         /* not 0 */
-    size_t neighborhood_radius; /* tiles this far away on each axis take part */
+    size_t neighborhood_radius; /* the tiles up to this far away on each axis are a tile's neighbourhood */
     int16_t threshold_offset;   /* added to each threshold before it is cut to a byte */
-    uint8_t contrast_floor;     /* a neighbourhood with less contrast than this is skipped */
-    uint32_t method;            /* of enum imgproc_method */
+    uint8_t contrast_floor;     /* a tile is skipped if its neighbourhood has less contrast than this */
+    uint32_t method;            /* one of enum imgproc_method */
     double k;                   /* finite */
     double dynamic_range;       /* finite and above 0 */
 };
@@ -83,21 +83,24 @@ struct imgproc_sauvola_settings {
 struct imgproc_reading_settings {
     struct imgproc_division_settings division;
     size_t opening_kernel;             /* odd, at least 3 */
-    struct imgproc_grid_settings grid; /* only its skips count */
+    struct imgproc_grid_settings grid; /* a reading uses only the grid's skips */
     struct imgproc_sauvola_settings sauvola;
 };
 #define IMGPROC_READING_DEFAULTS { IMGPROC_DIVISION_DEFAULTS, 3, IMGPROC_GRID_DEFAULTS, IMGPROC_SAUVOLA_DEFAULTS }
 
-/* Settings for a column that is so many pixels wide, between its walls. A number up to a quarter too large does as
-   well; one that is too small does not. They were measured on made pictures of columns 8 to 320 pixels wide and up to a
-   third of the picture. At least 99 % of the liquid was found, and what else was judged dark was at most 1 % of it,
-   where the liquid is 0.4 to 0.85 times as bright as the empty column, which is 0.93 to 0.95 times as bright as the
-   light beside it; where that light is 160 or more in the middle, with noise of at most a hundredth of it, and loses no
-   more to the corners than 0.1 in a picture three to five columns wide, 0.12 from six on, 0.15 from eight and 0.2 from
-   twelve. docs/SETTINGS.md has the tables, and what lies outside this range. Nothing of this is proved. */
+/* Returns settings for a column that is this many pixels wide between its walls. A number up to a quarter too large
+   works as well; one that is too small does not. The settings were measured on pictures made by a program, of columns
+   8 to 320 pixels wide and up to a third of the picture, with at least 250 pixels of liquid. At least 99 % of the
+   liquid was found, and the other pixels judged dark were at most 1 % as many as the liquid has, if
+    - the liquid is 0.4 to 0.85 times as bright as the empty column, which is 0.93 to 0.95 times as bright as the light
+      beside it;
+    - that light is 160 or more in the middle of the picture, with noise of at most a hundredth of it;
+    - the light loses no more to the corners than 0.1 in a picture three to five columns wide, 0.12 from six on, 0.15
+      from eight and 0.2 from twelve.
+   docs/SETTINGS.md has the tables, and says what lies outside this range. Nothing of this is proved. */
 static inline struct imgproc_reading_settings imgproc_settings_for_column(size_t pixels) {
     struct imgproc_reading_settings settings = IMGPROC_READING_DEFAULTS;
-    /* No picture has a wider one, and nothing below wraps. */
+    /* No picture has a wider column, and nothing below wraps. */
     const size_t column = pixels < 1 ? 1 : pixels > IMGPROC_MAX_SIDE ? IMGPROC_MAX_SIDE : pixels;
     settings.division.structuring_element = 2 * column + 1;
     settings.grid.neighborhood_radius = (column + settings.grid.tile_width - 1) / settings.grid.tile_width;
@@ -107,7 +110,7 @@ static inline struct imgproc_reading_settings imgproc_settings_for_column(size_t
     return settings;
 }
 
-/* What a reading counts. Dark, light and skipped add up to the number of pixels. */
+/* The counts of a reading. Dark, light and skipped add up to the number of pixels. */
 struct imgproc_counts {
     uint64_t dark;
     uint64_t light;
@@ -115,7 +118,7 @@ struct imgproc_counts {
     uint64_t comparisons; /* of samples, in the closing and the opening */
 };
 
-/* The sizes of a grid, as queries want them. */
+/* The sizes of a grid, as a query takes them. */
 struct imgproc_grid {
     size_t width;
     size_t height;
@@ -125,7 +128,7 @@ struct imgproc_grid {
     size_t tiles_y;
 };
 
-/* The words of an answer. */
+/* Returns an answer in words. */
 static inline const char *imgproc_refusal_words(uint32_t number) {
     switch (number) {
     case IMGPROC_ACCEPTED: return "accepted";
@@ -143,36 +146,38 @@ static inline const char *imgproc_refusal_words(uint32_t number) {
     }
 }
 
-/* Sums and products that stay at the largest size_t where they do not fit. */
+/* Return a + b and a * b, or the largest size_t if the result does not fit. */
 static inline size_t imgproc_plus(size_t a, size_t b) {
     return a > SIZE_MAX - b ? SIZE_MAX : a + b;
 }
 static inline size_t imgproc_times(size_t a, size_t b) {
     return b != 0 && a > SIZE_MAX / b ? SIZE_MAX : a * b;
 }
-/* A count of u64s, at most what malloc can be asked for: the length in bytes never wraps. */
+/* Cuts a count of u64s to what malloc can be asked for, so that the length in bytes never wraps. */
 static inline size_t imgproc_word_count(size_t count) {
     return count > SIZE_MAX / sizeof(uint64_t) ? SIZE_MAX / sizeof(uint64_t) : count;
 }
 
-/* The lengths of workspaces. A picture or settings that will be refused may need any length. */
+/* The next functions return the lengths of workspaces. For a picture or settings that will be refused the length means
+   nothing. */
 
-/* The bytes that an erosion, a dilation, an opening or a closing needs. */
+/* Returns the bytes that an erosion, a dilation, an opening or a closing needs. */
 static inline size_t imgproc_sweep_bytes(size_t width, size_t height) {
     return imgproc_times(6, imgproc_times(width, height));
 }
 
-/* The bytes that imgproc_divide needs. */
+/* Returns the bytes that imgproc_divide needs. */
 static inline size_t imgproc_division_bytes(size_t width, size_t height) {
     return imgproc_times(7, imgproc_times(width, height));
 }
 
-/* The u64s that imgproc_binarize needs. */
+/* Returns the u64s that imgproc_binarize needs. */
 static inline size_t imgproc_sauvola_words(size_t width, size_t height) {
     return imgproc_word_count(imgproc_times(2, imgproc_times(imgproc_plus(width, 1), imgproc_plus(height, 1))));
 }
 
-/* The tiles of a picture, which is also the length of its thresholds and of its skips; 0 where a tile side is 0. */
+/* Returns the number of tiles of a picture, which is also the length of its thresholds and of its skips; 0 if a tile
+   side is 0. */
 static inline size_t imgproc_tiles(size_t width, size_t height, const struct imgproc_grid_settings *settings) {
     if (settings->tile_width == 0 || settings->tile_height == 0)
         return 0;
@@ -180,26 +185,26 @@ static inline size_t imgproc_tiles(size_t width, size_t height, const struct img
                          height / settings->tile_height + (height % settings->tile_height != 0));
 }
 
-/* The u64s that imgproc_build_grid needs. */
+/* Returns the u64s that imgproc_build_grid needs. */
 static inline size_t imgproc_grid_words(size_t width, size_t height, const struct imgproc_grid_settings *settings) {
     return imgproc_word_count(imgproc_times(5, imgproc_tiles(width, height, settings)));
 }
 
-/* The bytes that imgproc_read needs. */
+/* Returns the bytes that imgproc_read needs. */
 static inline size_t imgproc_reading_bytes(size_t width, size_t height,
                                            const struct imgproc_reading_settings *settings) {
     return imgproc_plus(imgproc_times(9, imgproc_times(width, height)),
                         imgproc_times(2, imgproc_tiles(width, height, &settings->grid)));
 }
 
-/* The u64s that imgproc_read needs. */
+/* Returns the u64s that imgproc_read needs. */
 static inline size_t imgproc_reading_words(size_t width, size_t height,
                                            const struct imgproc_reading_settings *settings) {
     return imgproc_word_count(imgproc_plus(imgproc_sauvola_words(width, height),
                                            imgproc_grid_words(width, height, &settings->grid)));
 }
 
-/* imgproc_background_divide_into by name. */
+/* Calls imgproc_background_divide_into. */
 static inline uint32_t imgproc_divide(struct imgproc_source src, struct imgproc_destination dst,
                                       const struct imgproc_division_settings *settings,
                                       struct imgproc_bytes workspace, uint64_t *comparisons) {
@@ -210,7 +215,7 @@ static inline uint32_t imgproc_divide(struct imgproc_source src, struct imgproc_
                                           workspace.data, workspace.len, comparisons);
 }
 
-/* imgproc_sauvola_into by name. */
+/* Calls imgproc_sauvola_into. */
 static inline uint32_t imgproc_binarize(struct imgproc_source src, struct imgproc_destination dst,
                                         const struct imgproc_sauvola_settings *settings,
                                         struct imgproc_words workspace) {
@@ -221,7 +226,7 @@ static inline uint32_t imgproc_binarize(struct imgproc_source src, struct imgpro
                                 workspace.data, workspace.len);
 }
 
-/* imgproc_tile_grid_build by name. A refused call leaves *grid. */
+/* Calls imgproc_tile_grid_build. A refused call leaves *grid as it was. */
 static inline uint32_t imgproc_build_grid(struct imgproc_source src, const struct imgproc_grid_settings *settings,
                                           struct imgproc_words workspace, struct imgproc_bytes thresholds,
                                           struct imgproc_bytes skips, struct imgproc_grid *grid) {
@@ -243,7 +248,7 @@ static inline uint32_t imgproc_build_grid(struct imgproc_source src, const struc
     return answer;
 }
 
-/* imgproc_threshold_at, imgproc_is_skip and imgproc_row_all_skip by name. */
+/* Call imgproc_threshold_at, imgproc_is_skip and imgproc_row_all_skip. */
 static inline uint32_t imgproc_grid_threshold_at(const struct imgproc_grid *grid, struct imgproc_bytes thresholds,
                                                  size_t x, size_t y, uint8_t *value) {
     return imgproc_threshold_at(grid->width, grid->height, grid->tile_width, grid->tile_height,
@@ -260,7 +265,7 @@ static inline uint32_t imgproc_grid_row_all_skip(const struct imgproc_grid *grid
                                 grid->tiles_x, grid->tiles_y, skips.data, skips.len, y, value);
 }
 
-/* imgproc_reading by name. A refused call leaves *counts. */
+/* Calls imgproc_reading. A refused call leaves *counts as it was. */
 static inline uint32_t imgproc_read(struct imgproc_source src, struct imgproc_destination dst,
                                     const struct imgproc_reading_settings *settings,
                                     struct imgproc_bytes bytes, struct imgproc_words words,

@@ -1,5 +1,6 @@
-/* Holds the named calls of imgproc_settings.h against the flat ones: the same numbers, bytes and counts, over good and
-   bad settings, layouts and lengths. Prints how many calls were compared, or the first difference. C99 and C++11. */
+/* Compares the named calls of imgproc_settings.h with the flat ones: both must give the same numbers, bytes and counts,
+   over good and bad settings, layouts and lengths. Prints how many calls were compared, or the first difference. For
+   C99 and C++11. */
 #include <stdio.h>
 #include <stdlib.h>
 #include <string.h>
@@ -13,7 +14,7 @@
 static uint64_t state = 1;
 static unsigned compared = 0, accepted = 0, refused = 0;
 
-/* A number below n. */
+/* Returns a number below n. */
 static size_t below(size_t n) {
     state = state * UINT64_C(6364136223846793005) + UINT64_C(1442695040888963407);
     return (size_t)(state >> 33) % n;
@@ -26,7 +27,7 @@ static void check(int holds, const char *what) {
     }
 }
 
-/* What a call is lent, twice: for the named call and for the flat one. */
+/* The buffers that a call is lent, twice: for the named call and for the flat one. */
 static uint8_t picture[ROOM];
 static uint8_t dst[2][ROOM], bytes[2][BYTES], thresholds[2][ROOM], skips[2][ROOM];
 static uint64_t words[2][WORDS];
@@ -54,7 +55,7 @@ static void same(uint32_t named, uint32_t flat, const char *what) {
     check(memcmp(skips[0], skips[1], sizeof skips[0]) == 0, what);
 }
 
-/* Good settings, or one number of them off. */
+/* Returns good settings, or settings with one number out of range. */
 static struct imgproc_reading_settings some_settings(void) {
     struct imgproc_reading_settings s = IMGPROC_READING_DEFAULTS;
     s.division.structuring_element = 3 + 2 * below(6);
@@ -123,7 +124,8 @@ static void compare_calls(void) {
     lent_skips.data = skips[0];
     lent_thresholds.len = lent_skips.len = imgproc_tiles(src.width, src.height, &s.grid);
 
-    /* Each workspace is as long as it is said to have to be, or one short: then 8 is answered where nothing else is. */
+    /* Each workspace is as long as the header's function says, or one short: then the call returns 8 unless an earlier
+       reason fits. */
     fill();
     lent_bytes.len = imgproc_division_bytes(src.width, src.height) - (off == 4);
     named = imgproc_divide(src, to, &s.division, lent_bytes, &comparisons[0]);
@@ -207,7 +209,7 @@ static void compare_calls(void) {
         check(memcmp(&counts, &left, sizeof counts) == 0, "a refused reading changes the counts");
 }
 
-/* The defaults are the numbers of docs/BEHAVIOUR.md. */
+/* Checks that the defaults are the numbers of docs/BEHAVIOUR.md. */
 static void compare_defaults(void) {
     const struct imgproc_reading_settings s = IMGPROC_READING_DEFAULTS;
     const struct imgproc_source src = {picture, 24 * 30, 24, 30, 24};
@@ -233,7 +235,7 @@ static void compare_defaults(void) {
           "a default");
 }
 
-/* The settings for a column are those of the binding's test for_column: element, neighbourhood, radius. */
+/* Checks that the settings for a column are those of the binding's test for_column: element, neighbourhood, radius. */
 static void check_columns(void) {
     static const size_t expected[][4] = {
         {0, 3, 1, 1},     {1, 3, 1, 1},       {2, 5, 1, 2},       {8, 17, 1, 10},         {16, 33, 1, 20},
@@ -252,7 +254,7 @@ static void check_columns(void) {
     }
 }
 
-/* A length that does not fit is never a small number. */
+/* Checks that a length that does not fit is never a small number. */
 static void check_lengths(void) {
     static const size_t sides[] = {0, 1, 2, 4096, 4097, SIZE_MAX / 16, SIZE_MAX / 9 + 1, SIZE_MAX / 2 + 1, SIZE_MAX};
     struct imgproc_reading_settings s = IMGPROC_READING_DEFAULTS;
@@ -263,7 +265,7 @@ static void check_lengths(void) {
                 const size_t w = sides[i], h = sides[j], most = SIZE_MAX / sizeof(uint64_t);
                 const double pixels = (double)w * (double)h, table = 2 * ((double)w + 1) * ((double)h + 1);
                 s.grid.tile_width = s.grid.tile_height = t == 3 ? SIZE_MAX : t;
-                /* Doubles are near enough: the lengths on either side of the limit differ by far more than they err. */
+                /* Doubles are exact enough: a wrapped length would be off by far more than their error. */
                 check((double)imgproc_sweep_bytes(w, h) >= 6 * pixels * 0.99 || imgproc_sweep_bytes(w, h) == SIZE_MAX,
                       "imgproc_sweep_bytes wraps");
                 check((double)imgproc_division_bytes(w, h) >= 7 * pixels * 0.99 ||

@@ -1,4 +1,4 @@
-//! Finds the static library: in $IMGPROC_LIB_DIR, else where `rt staticlib imgproc_c` writes it.
+//! Finds the static library in $IMGPROC_LIB_DIR, or else where `rt staticlib imgproc_c` writes it.
 
 use std::env;
 use std::path::{Path, PathBuf};
@@ -26,7 +26,8 @@ fn main() {
     println!("cargo:rustc-link-lib=static=imgproc_c");
 }
 
-/// A relative folder is meant from where cargo was started, which $PWD tells; cargo runs this in the crate's folder.
+/// Returns the folder as a full path. A relative folder counts from where cargo was started, which $PWD tells; cargo
+/// runs this script in the crate's folder.
 fn from_the_caller(folder: &Path) -> PathBuf {
     if folder.is_absolute() {
         return folder.to_path_buf();

@@ -1,10 +1,10 @@
-// Shared by the two build scripts: finds the published Rust, aukilabs/qr-lab at c99d6ca466, through $QR_LAB_SRC.
+// Finds the published Rust, aukilabs/qr-lab at c99d6ca466, through $QR_LAB_SRC. Both build scripts include this file.
 
 use std::path::{Path, PathBuf};
 use std::process::exit;
 use std::{env, fs};
 
-/// The `src` folder of one of its crates.
+/// Returns the `src` folder of one of its crates.
 fn source(krate: &str) -> PathBuf {
     println!("cargo:rerun-if-env-changed=QR_LAB_SRC");
     let Some(root) = env::var_os("QR_LAB_SRC") else {
@@ -32,7 +32,7 @@ fn write(name: &str, text: &str) {
     }
 }
 
-/// A crate's first lines of documentation and attributes, which may not stand in an included file, left out.
+/// Leaves out a crate's own lines of documentation and attributes, which may not stand in an included file.
 fn without_crate_lines(text: &str) -> String {
     text.lines()
         .filter(|line| !line.starts_with("//!") && !line.starts_with("#!["))

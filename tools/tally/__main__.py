@@ -1,15 +1,15 @@
-"""Checks what document 01, part 2, says of the tally and no contract can say. A contract fixes what a call answers and leaves: how
-many comparisons it reports, but not that each was made and counted when it was made, and none beside. The types keep everybody but
-src/tally.rt from making a tally or touching its number. The rest are the rules of rules.py, over the program that the proofs are
-about, as `rt mir` prints it. No rule holds a copy of the code.
+"""Checks what document 01, part 2, says of the tally and no contract can say. A contract fixes how many comparisons a call reports.
+It does not say that each of them was made, that each was counted when it was made, and that no other was made. The types keep all
+code but src/tally.rt from making a tally or touching its number. The rules of rules.py cover the rest. They are about the program
+that the proofs are about, as `rt mir` prints it. No rule holds a copy of the code.
 
   python3 tools/tally             checks image, imgproc, and the two crates that report a number: answer and imgproc_c
-  python3 tools/tally try         tries each edit of crates/*/fence: the one that it names must refuse it (edits.py)
-  python3 tools/tally try A B     the edits A and B alone
+  python3 tools/tally try         tries each edit of crates/*/fence: what the edit names must refuse it (edits.py)
+  python3 tools/tally try A B     tries the edits A and B alone
 
-A breach is printed as file, line and function, what that one does, and the rule. The tool ends with 1 where a rule is broken or an
-edit is not refused as it says, and with 2 where it cannot tell: the print has another form (mir.py), or the functions that the
-rules name are not in it (program.py)."""
+The tool prints a breach as file, line and function, what the function does, and the rule. It exits with 1 if a rule is broken or an
+edit is not refused as its file says. It exits with 2 if it cannot tell: the print has another form (mir.py), or does not contain the
+functions that the rules name (program.py)."""
 import pathlib
 import sys
 

@@ -1,13 +1,13 @@
-"""Tries the edits of crates/*/fence: frauds on the tally, each with who refuses it, and honest changes that must pass. They have
-the form of the must-fail edits, and a line that says
+"""Tries the edits of crates/*/fence: frauds on the tally, which must be refused, and honest changes, which must pass. They have the
+form of the must-fail edits, and a line that says what refuses them:
 
   refused by: compiler CODE     `rt mir` rejects the crate with this error
   refused by: check RULE        the crate compiles, and this rule is broken
   refused by: proof             no rule is broken, and the crate is not proved any more
-  passes                        the crate compiles and no rule is broken; whether its proofs follow is not asked
+  passes                        the crate compiles and no rule is broken; its proofs are not tried
 
-Each edit is applied by itself in a copy, $FRAUDS_COPY or target/frauds, where tools/frauds leaves what it has proved; what was
-proved here is taken along. An edit fails where it does not apply, or another refuses it, or nobody."""
+The tool applies each edit by itself in a copy, $FRAUDS_COPY or target/frauds, where tools/frauds leaves what it has proved. It takes
+along what was proved in the repository. An edit fails if it does not apply, or if something else refuses it, or nothing."""
 import os
 import pathlib
 import re
@@ -39,7 +39,7 @@ class Edit:
                 self.changes.append((file, old, line[4:].removeprefix(' ')))
 
     def apply(self, copy):
-        """Whether each old text was in its file once, and is replaced."""
+        """Replaces the old texts. Tells whether each stood in its file exactly once."""
         for file, old, new in self.changes:
             path = copy / 'crates' / self.crate / file
             text = path.read_text()
@@ -55,7 +55,7 @@ def restore(root, copy, crate):
 
 
 def make(root, copy):
-    """The crates as they stand, and what is proved of them."""
+    """Copies the crates as they stand, and what is proved of them."""
     (copy / 'target').mkdir(parents=True, exist_ok=True)
     shutil.copy(root / 'crates.txt', copy)
     for crate in (root / 'crates').iterdir():
@@ -68,7 +68,7 @@ def make(root, copy):
 
 
 def proof(copy, crate):
-    """Who refuses a crate that no rule refuses: the proofs, with the first need that is not met, or nobody."""
+    """Tells what refuses a crate that no rule refuses: a proof, with the first need that is not met, or nobody."""
     run = subprocess.run(['rt', 'dev', crate], cwd=copy, capture_output=True, text=True, stdin=subprocess.DEVNULL)
     log = run.stdout + run.stderr
     if run.returncode != 1 or not re.search('^logic=not-proved', log, re.M):
@@ -79,7 +79,7 @@ def proof(copy, crate):
 
 
 def refused(edit, copy, base):
-    """Who refuses an applied edit, and what is said."""
+    """Tells what refuses an applied edit, and with which message."""
     try:
         found = breaches({**base, edit.crate: prints.of(edit.crate, copy)})
     except Rejected as rejected:
@@ -91,7 +91,7 @@ def refused(edit, copy, base):
 
 
 def tried(edit, root, copy, base):
-    """Whether an edit is refused by the one that it names."""
+    """Tells whether the edit is refused by what its file names."""
     if not edit.apply(copy):
         print(f'{edit.name}: DOES NOT APPLY', flush=True)
         good = False

@@ -1,8 +1,8 @@
-"""Reads what `rt mir CRATE` prints: a crate's functions and those that it calls, typed, with every name resolved. It is the
-program that the proofs are about.
+"""Reads what `rt mir CRATE` prints: a crate's functions and those that it calls, typed, with every name resolved. The proofs are
+about this program.
 
-The print is one nested term. Its form is the kit's own; this file knows the one of rattle-kit-5b. A term that it does not know
-is an error (Unknown), never a guess, so that a new kit is noticed and not passed over."""
+The print is one nested term. Its form is the kit's own, and this file knows the form of rattle-kit-5b. It raises an error (Unknown)
+at a term that it does not know and never guesses, so that a new kit does not go unnoticed."""
 import re
 from dataclasses import dataclass
 
@@ -16,14 +16,14 @@ TAG = 'tag'  # the type of the number that says which variant an enum's value is
 
 
 class Unknown(Exception):
-    """The print has a form that this file does not know."""
+    """Raised if the print has a form that this file does not know."""
 
 
 @dataclass
 class Function:
     name: str
-    takes: int  # local 0 is the result, and the next ones are the parameters
-    types: list  # of its locals
+    takes: int  # the number of parameters: local 0 is the result, and the next ones are the parameters
+    types: list  # the types of its locals
     body: object
 
     def parameters(self):
@@ -37,7 +37,7 @@ class Program:
     enums: set
 
     def type_at(self, function, place):
-        """The type of what stands at a place: a local, and the steps from it."""
+        """Returns the type of what stands at a place: a local, and the steps from it."""
         kind = function.types[int(place[1])]
         variant = 0
         for step in items(place[2]):
@@ -59,7 +59,7 @@ class Program:
         return TAG if number == 0 else self.variants[kind[1][1]][variant][number - 1]
 
     def holds(self, kind, wanted, seen=()):
-        """Whether a value of this type has a part that is wanted, behind a reference or not."""
+        """Tells whether a value of this type has a wanted part, behind a reference or not."""
         if wanted(kind):
             return True
         if isinstance(kind, str):
@@ -74,7 +74,7 @@ class Program:
 
 
 def items(term):
-    """The members of a list, which is printed as cons cells."""
+    """Returns the members of a list, which is printed as cons cells."""
     out = []
     while not isinstance(term, str):
         if term[0] not in ('lcons', 'tcons', 'ttcons') or len(term) != 3:
@@ -93,7 +93,7 @@ def head(term):
 
 
 def operands(value):
-    """The operands of a value. What `addrOf` lends is a place and no operand."""
+    """Returns the operands of a value. What `addrOf` lends is a place and no operand."""
     if head(value) not in VALUES:
         raise Unknown(f'the value {head(value)}')
     if value[0] == 'addrOf':
@@ -109,7 +109,7 @@ def operands(value):
 
 
 def arms(statement):
-    """Each arm of a switch: the numbers that it is for, and its statements. The default's are None."""
+    """Returns each arm of a switch: the numbers that it is for (None for the default), and its statements."""
     out, rest = [], statement[2]
     while head(rest) == 'arm':
         out.append(([int(n) for n in items(rest[1])], rest[2]))
@@ -122,14 +122,14 @@ def arms(statement):
 
 
 def callee(call):
-    """The name of the function that a call calls."""
+    """Returns the name of the function that a call calls."""
     if call[1][0] != 'direct' or call[1][1][0] != 'fnRef' or len(call[1][1]) != 2:
         raise Unknown(f'the call {show(call[1])[:60]}')
     return call[1][1][1]
 
 
 def statements(body):
-    """Each assignment, call, branch and loop of a body, in the order of the text."""
+    """Yields each assignment, call, branch and loop of a body, in the order of the text."""
     kind = head(body)
     if kind not in STATEMENTS:
         raise Unknown(f'the statement {kind}')
@@ -174,7 +174,7 @@ def function(term):
 
 
 def read(prints):
-    """The program of several crates: of each crate that is printed, its own print decides."""
+    """Reads the program of several crates. For a function of a crate that is printed, that crate's own print counts."""
     program = Program({}, {}, set())
     for crate, text in prints.items():
         term = parse(text)
@@ -192,7 +192,7 @@ def read(prints):
 
 
 def declare(program, pair):
-    """A struct or an enum, as it stands beside the functions that use it."""
+    """Reads a struct or an enum, which the print repeats beside the functions that use it."""
     name, shape = pair[1], pair[2]
     if shape[0] == 'fields':
         program.variants[name] = [items(shape[1])]

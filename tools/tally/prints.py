@@ -1,4 +1,4 @@
-"""The prints of the crates that the rules are about, and where in the sources a breach stands."""
+"""Gets the prints of the crates that the rules are about, and finds where in the sources a breach stands."""
 import re
 import subprocess
 
@@ -9,11 +9,11 @@ CRATES = ('image', 'imgproc', *REPORTING)
 
 
 class Rejected(Unknown):
-    """The compiler rejects the crate."""
+    """Raised if the compiler rejects the crate."""
 
 
 def of(crate, root):
-    """What `rt mir` prints of a crate. The crates that it uses have to be proved; `rt` proves those that are not."""
+    """Returns what `rt mir` prints for a crate. The crates that it uses have to be proved; `rt` proves those that are not."""
     run = subprocess.run(['rt', 'mir', crate], cwd=root, capture_output=True, text=True, stdin=subprocess.DEVNULL)
     if run.returncode == 0:
         return run.stdout
@@ -33,7 +33,7 @@ def told(breach, root):
 
 
 def place(name, root):
-    """The file and line of a function, as far as its name tells."""
+    """Returns the file and line of a function, as far as its name tells."""
     crate, *path = name.split('::')
     source = root / 'crates' / crate / 'src'
     for file in (source / f'{path[0]}.rt', source / 'lib.rt', source / 'main.rt'):

@@ -1,4 +1,4 @@
-"""The program as the rules see it: what carries a tally, what sweeps, who calls whom. The names that the rules know stand here."""
+"""Shows the program to the rules: what carries a tally, what sweeps, who calls whom. The names that the rules know stand here."""
 from mir import BYTE, Unknown, callee, calls, head
 
 MODULE = 'imgproc::morphology::tally::'
@@ -6,13 +6,13 @@ TALLY, MET = MODULE + 'Tally', MODULE + 'Met'
 START, LESSER, GREATER, COUNTED, CHOSEN, NUMBER = (
     MODULE + name for name in ('start', 'lesser', 'greater', 'counted', 'chosen', 'comparisons')
 )
-# Parts 3, 5 and 6 of document 01 look at samples by rules of their own, after a sweep. Each is called by one function.
+# Parts 3, 5 and 6 of document 01 use samples by rules of their own, after a sweep. Each of these functions has one caller.
 OTHER_PARTS = {
     'imgproc::illumination::divide_plane': 'imgproc::illumination::flatten',
     'imgproc::reading::mark_tiles': 'imgproc::reading::read_picture',
     'imgproc::reading::judging::judge_picture': 'imgproc::reading::read_picture',
 }
-# Who writes the program's line, and who tells a refusal: all that the holder of an answer calls.
+# LINE writes the program's line, and REFUSALS report a refusal. A function that holds an answer may call these alone.
 LINE, REFUSALS = 'pgm::counts_line', ('imgproc::number', 'pgm::refused_line')
 # The crates that report a number.
 REPORTING = ('answer', 'imgproc_c')
@@ -26,10 +26,10 @@ class Code:
         self.sweeping = self.reaching({LESSER, GREATER})
         self.library = [f for f in self.of('imgproc') if not f.name.startswith(MODULE)]
         self.above = [f for crate in REPORTING for f in self.of(crate)]
-        self.meeting = next(iter(self.callers(LESSER)), None)  # the one that calls the extremes
+        self.meeting = next(iter(self.callers(LESSER)), None)  # the function that calls the extremes
 
     def expect(self, *names):
-        """A rule that finds nothing to look at must not pass."""
+        """Raises Unknown if a function is missing: a rule that finds nothing to look at must not pass."""
         missing = [n for n in names if n not in self.functions]
         missing += [n for n in (TALLY, MET) if n not in self.program.variants]
         readers = {name.split('::')[0] for name in self.callers(NUMBER)}
@@ -41,22 +41,22 @@ class Code:
         return [f for f in self.functions.values() if f.name.startswith(crate + '::')]
 
     def callers(self, name):
-        """Who calls a function, once for each call."""
+        """Returns the callers of a function, once for each call."""
         return [caller for caller, called in self.called.items() for one in called if one == name]
 
     def reaching(self, names):
-        """These functions, and every one from which one of them is called in the end."""
+        """Returns these functions, and every function that calls one of them, directly or not."""
         found = set(names)
         while more := {f for f, called in self.called.items() if found & set(called)} - found:
             found |= more
         return found
 
     def carries(self, kind):
-        """Whether a value of this type has a tally in it, or behind it."""
+        """Tells whether a value of this type has a tally in it, or behind a reference in it."""
         return self.program.holds(kind, lambda t: t[:1] == ['tyNamed'] and t[1][1] == TALLY)
 
     def lends_bytes(self, kind):
-        """Whether bytes can be reached through a value of this type."""
+        """Tells whether bytes can be reached through a value of this type."""
         return self.program.holds(
             kind, lambda t: t == 'tyPtr' or t[:1] == ['tyRef'] and t[3] == BYTE or t[:2] == ['tyArray', BYTE]
         )

@@ -1,5 +1,5 @@
-"""The rules. Each is a function: first what document 01, part 2, says, then what is looked at. It gives each function that breaks
-the rule, and what that one does."""
+"""The rules. Each is a function. Its comment gives first the sentence of document 01, part 2, and then what the rule checks. It
+yields each function that breaks the rule, and what that function does."""
 import mir
 from mir import BYTE, callee, calls, head, items, operands, statements
 from program import CHOSEN, COUNTED, GREATER, LESSER, MODULE, NUMBER, OTHER_PARTS, START, Code, short
@@ -30,8 +30,8 @@ def an_extreme_compares_once(code):
 
 
 def the_extremes_are_called_in_one_place(code):
-    """Every extreme of a sweep comes out of the two functions. They are called once each, in one function, and what is met there
-    are samples of the picture and no numbers made up to be counted."""
+    """Every extreme of a sweep comes out of the two functions. One function calls them, once each, and gives them samples of the
+    picture and no numbers made up to be counted."""
     lesser, greater = code.callers(LESSER), code.callers(GREATER)
     if len(lesser) != 1 or lesser != greater:
         for name in sorted({*lesser, *greater}):
@@ -45,22 +45,22 @@ def the_extremes_are_called_in_one_place(code):
 
 
 def what_carries_a_tally_is_handed_on_once(code):
-    """Nothing sets the tally back or lowers it, and no comparison goes uncounted. Whoever has a tally hands it on exactly once on
-    every way, neither dropped nor used twice. Of an extreme and its tally both are taken, and the extreme is stored, or met
-    again."""
+    """Nothing sets the tally back or lowers it, and no comparison goes uncounted. A function that has a tally hands it on exactly
+    once on every path: it neither drops it nor uses it twice. It takes both an extreme and its tally, and it stores the extreme or
+    compares it again."""
     for f in code.library + code.above:
         if any(map(code.carries, f.types)):
             yield from HandedOn(code, f).broken
 
 
 def each_call_that_sweeps_starts_one_tally(code):
-    """Every call that sweeps starts the tally once, before its first sweep. What takes a tally starts none, and what sweeps and
-    takes none starts one, at one place that no loop comes back to."""
+    """Every call that sweeps starts the tally once, before its first sweep. A function that takes a tally starts none. A function
+    that sweeps and takes none starts one, at one place that stands in no loop."""
     counts = {START: 1}
 
     def starts(name):
         if name not in counts:
-            counts[name] = 0  # where a function calls itself
+            counts[name] = 0  # ends the recursion if a function calls itself
             counts[name] = sum(map(starts, code.called.get(name, [])))
         return counts[name]
 
@@ -75,10 +75,10 @@ def each_call_that_sweeps_starts_one_tally(code):
 
 
 def in_a_sweep_samples_are_only_moved_or_met(code):
-    """Samples are compared nowhere else in an erosion or dilation. In whatever sweeps, and in whatever is lent the bytes of what
-    sweeps, a sample is loaded, stored, or met by the one function that calls the extremes. Nothing computes with it, decides by
-    it, passes it on or keeps it elsewhere, and no sample comes from elsewhere. Parts 3, 5 and 6 are no sweeps; their owners
-    alone lend them bytes."""
+    """Samples are compared nowhere else in an erosion or dilation. A function that sweeps, or that is lent bytes by one that
+    sweeps, loads a sample, stores it, or gives it to the one function that calls the extremes. It does not compute with a sample,
+    decide by it, pass it on or keep it elsewhere, and gets no sample from elsewhere. Parts 3, 5 and 6 are no sweeps; each is lent
+    bytes by its one caller alone."""
     todo = [f for f in code.library if f.name in code.sweeping]
     seen = {f.name for f in todo}
     while todo:
@@ -96,19 +96,19 @@ def in_a_sweep_samples_are_only_moved_or_met(code):
 
 
 def lent_to(code, f):
-    """Whom a function lends bytes."""
+    """Yields the functions to which a function lends bytes."""
     for call in calls(f.body):
         if any(map(code.lends_bytes, kinds(code, f, items(call[2])))):
             yield callee(call)
 
 
 def kinds(code, f, given):
-    """The types of the operands that are read from somewhere."""
+    """Returns the types of the operands that are read from a place."""
     return [code.program.type_at(f, o[1]) for o in given if head(o) == 'copy']
 
 
 def moved_or_met(code, f):
-    """What a function does with a sample, beside loading, storing and meeting it."""
+    """Yields what a function does with a sample besides loading it, storing it and giving it to the extremes."""
     for s in statements(f.body):
         if s[0] in ('if', 'switch') and code.is_sample(f, s[1]):
             yield f.name, 'decides by a sample'
@@ -141,9 +141,9 @@ def assigned(code, f, place, value):
 
 
 def a_reported_number_is_read_out_of_its_tally(code):
-    """The reported number is the tally and is never worked out. Nobody in imgproc reads the number. Above it, whoever has an answer
-    takes it apart, writes the number of its tally to the lent number or to the line, and computes, calls and stores nothing
-    else."""
+    """The reported number is the tally and is never worked out. No function of imgproc reads the number. Above imgproc, a function
+    that has an answer takes it apart, writes the number of its tally to the lent number or to the line, and computes, calls and
+    stores nothing else."""
     for name in code.callers(NUMBER):
         if name.startswith('imgproc::'):
             yield name, 'reads the number of a tally'
@@ -165,6 +165,6 @@ RULES = (
 
 
 def breaches(prints):
-    """Every breach of a rule in the printed crates: the rule, the function, and what that one does."""
+    """Returns every breach of a rule in the printed crates: the rule, the function, and what the function does."""
     code = Code(mir.read(prints))
     return list(dict.fromkeys((rule.__name__, name, what) for rule in RULES for name, what in rule(code)))

@@ -1,4 +1,4 @@
-"""Follows every way through a function, from its first statement to each return, and notes what a rule wants to know on it."""
+"""Follows every path through a function, from its first statement to each return, and notes what a rule has to know about it."""
 import mir
 from mir import TAG, Unknown, callee, head, items, operands, statements
 from program import CHOSEN, COUNTED, LINE, MET, NUMBER, REFUSALS, short
@@ -14,7 +14,7 @@ NAMES = {
 
 
 class Ways:
-    """A rule says what it notes (the state), and what each statement does to it."""
+    """Follows the paths. A subclass says what it notes (the state), and what each statement does to it."""
 
     def __init__(self, code, function):
         self.code, self.function, self.broken, self.scopes = code, function, [], []
@@ -28,7 +28,7 @@ class Ways:
         return self.code.program.type_at(self.function, place)
 
     def follow(self, s, state):
-        """The state after a statement; None where no way goes on from it."""
+        """Returns the state after a statement, or None if no path goes on from it."""
         kind = head(s)
         if kind == 'seq':
             state = self.follow(s[1], state)
@@ -54,8 +54,8 @@ class Ways:
         return None
 
     def scope(self, kind, body, state):
-        """A block is left at its end or by an exit. A loop's end, and an exit to it, is its next turn: only what stands around a
-        loop ends it."""
+        """Returns the state after a block or a loop. A path leaves a block at its end or by an exit. The end of a loop, or an exit
+        to it, begins its next turn; only an exit to a block around it leaves the loop."""
         self.scopes.append([])
         end = self.follow(body, state)
         ends = [s for s in [end, *self.scopes.pop()] if s is not None]
@@ -80,9 +80,9 @@ class Ways:
 
 
 class HandedOn(Ways):
-    """Notes what each local has in it that is still to be handed on: a tally; of a Met also its value; a reference to a tally;
-    a sample that an extreme gave; a number that was read out of a tally. A tally is handed on once and no second time. The
-    sample and the number are stored, met or written at least once."""
+    """Notes what each local holds that the function still has to hand on: a tally; the value of a Met; a reference to a tally; a
+    sample that an extreme returned; a number that was read out of a tally. The function must hand on a tally exactly once. It must
+    store, compare or write the sample and the number at least once."""
 
     def begin(self):
         types = self.function.types
@@ -107,7 +107,7 @@ class HandedOn(Ways):
         name = next((name for part, name in NAMES.items() if part in parts), 'the tally')
         return f'{name} {self.origin.get(n, f"of local {n}")}'
 
-    # Where ways come together
+    # Paths that come together
 
     def join(self, states):
         for n in {n for s in states for n in s}:
@@ -125,7 +125,7 @@ class HandedOn(Ways):
                 self.no(f'uses {self.what(n, less)} in every turn of a loop')
 
     def arm(self, operand, numbers, state):
-        """In the arm of a variant that has no tally in it, there is none to hand on."""
+        """Drops the tally in the arm of a variant that has none: there is nothing to hand on."""
         if numbers is None or head(operand) != 'copy' or self.kind(operand[1]) != TAG or len(items(operand[1][2])) != 2:
             return state
         n = int(operand[1][1])
@@ -141,7 +141,7 @@ class HandedOn(Ways):
             if due and not kept:
                 self.no(f'drops {self.what(n, due)}')
 
-    # What a statement takes and puts
+    # Statements that take a part out of a local, or put one in
 
     def take(self, state, n, parts):
         if not parts <= state.get(n, NOTHING):
@@ -153,7 +153,7 @@ class HandedOn(Ways):
         if steps and not self.code.carries(self.kind(place)):
             if parts and not any(step[0] == 'deref' for step in steps):
                 self.no('keeps an extreme or a number in a part of something')
-            return state  # it is stored
+            return state  # the sample or number is stored
         if steps and not (self.lent(n) and self.passed(n) and len(steps) == 1):
             self.no('puts a tally into a part of something, or through a reference of its own')
         if state.get(n):
@@ -162,7 +162,7 @@ class HandedOn(Ways):
         return {**state, n: parts}
 
     def use(self, operand, state, by=None):
-        """An operand is read: by a call, or else by an assignment."""
+        """Returns the state after the operand is read, by the call of `by` or by an assignment."""
         if head(operand) != 'copy':
             return state
         n, steps, kind = int(operand[1][1]), items(operand[1][2]), self.kind(operand[1])
@@ -177,14 +177,14 @@ class HandedOn(Ways):
         return self.take(state, n, frozenset(part))
 
     def spends(self, due, by):
-        """An extreme is met again, or the number is written to the line."""
+        """Tells whether the call of `by` compares the extreme again, or writes the number to the line."""
         return 'sample' in due and by == self.code.meeting or 'number' in due and by == LINE
 
     def use_reference(self, n, state, by):
         if by is None:
             self.no('keeps a reference to a tally')
         after = self.take(state, n, frozenset({'tally'} if self.passed(n) else {'reference'}))
-        return state if self.passed(n) else after  # what was lent comes back
+        return state if self.passed(n) else after  # the callee gives back what was lent
 
     def lend(self, place, target, state):
         n, steps = int(target[1]), items(target[2])
@@ -217,9 +217,9 @@ class HandedOn(Ways):
 
 
 class Reported(Ways):
-    """Notes how far the function is: it has no answer yet; it has one; its answer is reported, by the line or by another that took it.
-    With an answer it only takes that apart: no arithmetic, no other call, and it stores only parts of the answer and the number of
-    its tally. Afterwards it calls and stores nothing."""
+    """Notes how far the function is: it has no answer yet; it has one; its answer is reported, by the line or by a function that took
+    it. With an answer it only takes that apart: it does no arithmetic, makes no other call, and stores only parts of the answer and
+    the number of its tally. After the report it calls and stores nothing."""
 
     NONE, ANSWERED, DONE = range(3)
 

@@ -1,10 +1,10 @@
-"""Breaks long lines where the formatter keeps a break: nowhere inside a bracket that has commas, unless each of its
-parts gets a line. The formatter indents them."""
+"""Breaks long lines where the formatter keeps a break. It keeps none inside a bracket that has commas, unless each of
+the bracket's parts gets a line. The formatter indents the lines."""
 
 import re
 
 WIDTH = 156
-# A line ends best behind one of these, and never begins with one or ends with one of the others.
+# A line ends best behind a joint. It never begins with a joint, and never ends with a prefix.
 JOINTS = {'$', '∷', '×', '→', '∵', '⊛'}
 PREFIXES = {'!', '‵', 'λ', 'local', 'raw', 'vint', 'w64', 'use1', 'use2', 'use3'}
 
@@ -26,7 +26,7 @@ def broken(line):
 
 
 def imports(line):
-    """The same module imported by more than one line."""
+    """Splits the import of one module into several lines."""
     path, names = re.fullmatch(r'use (.*)\.\{(.*)\}', line).groups()
     lines = ['']
     for name in names.split(', '):
@@ -46,7 +46,7 @@ def comment(text, lead):
 
 
 def cut(line, indent):
-    """The line in parts, each cut at the outermost place of its right half, or else of its left."""
+    """Cuts the line into parts, each at the outermost place of its right half, or else of its left half."""
     lines = []
     while len(line) > WIDTH:
         places = [(at < (len(indent) + WIDTH) / 2, depth, bad, -at) for at, depth, bad in spaces(line) if at <= WIDTH]
@@ -59,7 +59,7 @@ def cut(line, indent):
 
 
 def exploded(line, indent):
-    """A tuple or a record that is too long by itself, with each part on its own line; then the rest of the line."""
+    """Puts each part of a tuple or a record that is too long by itself on its own line; then the rest of the line."""
     start, end = next((start, end) for start, end in sorted(matched(line).items()) if has_commas(line[start + 1:end]))
     own, comma = re.match(' *', line)[0], ';' if line[start] == '{' else ','
     parts = [cut(f'{own}  {part}{comma}', f'{own}  ') for part in at_commas(line[start + 1:end])]
@@ -67,7 +67,7 @@ def exploded(line, indent):
 
 
 def spaces(line):
-    """Each place where the line may be cut, how many of its brackets are open there, and whether it is a bad one."""
+    """Returns each place where the line may be cut, how many brackets are open there, and whether it is a bad place."""
     partners, open_, places = matched(line), [], []
     for at, sign in enumerate(line):
         if at in partners:
@@ -83,7 +83,7 @@ def spaces(line):
 
 
 def matched(line):
-    """Where each bracket that is closed in the line is closed."""
+    """Returns the place of the closing partner of each bracket that the line closes."""
     partners, open_ = {}, []
     for at, sign in enumerate(line):
         if sign in '({[':
@@ -94,7 +94,7 @@ def matched(line):
 
 
 def at_commas(inner):
-    """The parts of a tuple or a record."""
+    """Returns the parts of a tuple or a record."""
     depth, parts = 0, ['']
     for sign in inner:
         depth += (sign in '({[') - (sign in ')}]')

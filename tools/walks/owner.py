@@ -1,13 +1,13 @@
-"""The owners: functions that put a tally into a local, lend it to sweeps in turn, and return it."""
+"""Writes the walks of the owners: functions that put a tally into a local, lend it to sweeps in turn, and return it."""
 
 from terms import Numbers, dashed, filled, listed, paired, subscript
 from walk import HERE, Walk, typed
 
 
 class Places:
-    """Where the MIR of an owner has what it takes and makes: _0 is the result, _1 the tally, _2 the slice, then the
-    numbers; behind them the tally that is lent, and what a sweep answers; then for each call a reference to the tally,
-    a pointer, and the slice that the sweep gets."""
+    """The locals of an owner's MIR. _0 is the result, _1 the tally, _2 the slice; then come the numbers; then the tally
+    that is lent, and what a sweep returns; then for each call a reference to the tally, a pointer, and the slice that
+    the sweep gets."""
 
     def __init__(self, owner):
         count = len(owner.names)
@@ -19,20 +19,20 @@ class Places:
 
 
 class Call:
-    """The k-th call, its names in the walk, and what is known before it."""
+    """The k-th call, with its names in the walk and what is known before it."""
 
     def __init__(self, k, sweep, numbers, before, last):
         self.k, self.sweep, self.numbers, self.last = k, sweep, numbers, last
-        # To the last sweep the slice goes for good, under its own name and lifetime; to the others it is lent again.
+        # The last sweep gets the slice for good, under its own name and lifetime; the others are lent it again.
         self.slice_name, self.life, self.share = ('γ', 'κ', 'q') if last else (f'δ{k}', f'(μ{k} ∷ [])', 'fullShare')
         self.tally, self.fits = (f'r{k - 1}', f'fits{k - 1}') if before else ('h₀', 'fits₀')
         self.list = f'zs{k - 1}' if before else 'l'
-        # That the list is as long as the slice was at first, step by step.
+        # Proves, step by step, that the list is as long as the slice was at first.
         self.long = chained([f'(e{j} .1 .1)' for j in range(k - 1, 0, -1)]) if before else 'refl'
         self.facts = ' '.join(f'r{j} zs{j} (e{j} .1 .0) (e{j} .1 .1)' for j in range(1, k))
 
     def instance(self, places):
-        """What `Called.antt` is taken at."""
+        """Returns the arguments for `Called.antt`."""
         ids = f'{self.life} {self.share} {places.address} γ{self.k} {self.tally} (lent {self.slice_name} {self.list}) v'
         return f'Asks {self.sweep.says} 𝓤 H A W (num-{self.k} x) (ν{self.k} ∷ []) {ids}'
 
@@ -41,7 +41,7 @@ class Call:
 
 
 def chained(steps):
-    """Equations, one after the other."""
+    """Returns the composition of equations, one after the other."""
     return steps[0] if len(steps) == 1 else f'({steps[0]} ∙ {chained(steps[1:])})'
 
 
@@ -51,7 +51,7 @@ def calls_of(owner, code):
 
 
 def sweeps_of(owner, code):
-    """The sweeps that it calls, each once, and their numbers in the proof."""
+    """Returns the sweeps that an owner calls, each once, and their numbers in the proof."""
     return list(enumerate((code.sweeps[name] for name in dict.fromkeys(name for name, _ in owner.calls)), 1))
 
 
@@ -109,12 +109,12 @@ def lend(w, call, places):
 
 
 def again(call):
-    """What `SliceAgain.antt` is taken at."""
+    """Returns the arguments for `SliceAgain.antt`."""
     return f'u8 κ {call.life} q γ b o'
 
 
 def lend_slice(w, call):
-    """Lends the slice again; what is kept of it takes it back."""
+    """Lends the slice again, and keeps what takes it back."""
     k = call.k
     w.front('ws', 'tok')
     lent = f'‵ (MutSlice (named 1) {call.life} u8 .own (lent δ{k} {call.list}) (v ∷ []))'
@@ -129,7 +129,7 @@ def lend_slice(w, call):
 
 
 def call_sweep(w, call, places, known):
-    """Calls the sweep; then there are a tally and a list of which it says what it says."""
+    """Calls the sweep, and takes the tally and the list of which its contract speaks."""
     k, instance = call.k, call.instance(places)
     reference, _, slice_ = places.calls[k - 1]
     w.front(f'ν{k}', *(('tok', 't', 'ws') if call.last else (f'μ{k}', 't', 'lent')))
@@ -154,7 +154,7 @@ def call_sweep(w, call, places, known):
 
 
 def take_back(w, call, places):
-    """The lifetimes end: the tally is back in its local, and then the slice."""
+    """Ends the lifetimes: takes the tally back into its local, and then the slice."""
     k = call.k
     w.comment('the tally is back, and then the slice')
     w.front(f'ν{k}')

@@ -4,7 +4,7 @@ import re
 
 
 class Unread(Exception):
-    """The code has a form that the walks are not made for."""
+    """Raised if the code has a form that the walks are not made for."""
 
 
 class Function:
@@ -22,7 +22,7 @@ class Function:
         self.types = kinds[2:]
 
     def over(self, term, numbers):
-        """A term of the contract over these numbers, t and d before, r and d′ after."""
+        """Rewrites a term of the contract over these numbers: t and d are tally and slice before, r and d′ after."""
         tally, lent = re.escape(self.tally), re.escape(self.slice)
         forms = [
             (rf'\(now \({tally} \.entry\)\)|\(now {tally}\)', 't'),
@@ -37,7 +37,7 @@ class Function:
 
 
 def braced(text, start):
-    """The text between the brace at `start` and its partner, and where that ends."""
+    """Returns the text between the brace at `start` and its partner, and where that ends."""
     depth = 0
     for i in range(start, len(text)):
         depth += {'{': 1, '}': -1}.get(text[i], 0)
@@ -47,7 +47,7 @@ def braced(text, start):
 
 
 def read(text, name):
-    """The function of that name."""
+    """Returns the function of that name."""
     found = re.search(rf'\bfn {name}\s*\(', text)
     if not found:
         raise Unread(f'no function `{name}`')
@@ -67,7 +67,7 @@ def read(text, name):
 
 
 def called(statement, name):
-    """The function and the arguments of a statement that is one call."""
+    """Returns the function and the arguments of a statement that is one call."""
     found = re.fullmatch(r'(\w+)\((.*)\)', statement.strip(), re.DOTALL)
     if not found:
         raise Unread(f'`{statement.strip()}` in `{name}` is no call')
@@ -83,7 +83,7 @@ class Sweep(Function):
         self.core, arguments = called(statement, self.name)
         if not self.tally_is_lent or arguments != [f'*{self.tally}', self.slice, *self.names]:
             raise Unread(f'`{self.name}` is no thin sweep')
-        # What it says, as `Says.antt` has it: `sweep_rows` is `RowsSay`.
+        # The name of its claim in `Says.antt`: that of `sweep_rows` is `RowsSay`.
         self.says = self.name.removeprefix('sweep_').capitalize() + 'Say'
 
 
@@ -125,7 +125,7 @@ class Code:
         self.first = first
 
     def used(self, *terms):
-        """The `use` lines of the definitions that contracts name."""
+        """Returns the `use` lines of the definitions that contracts name."""
         lines = {}
         for name in dict.fromkeys(re.findall(r'[A-Z]\w*', ' '.join(terms))):
             if name in self.uses:

@@ -1,4 +1,4 @@
-"""Text of terms: lists, nested tuples, and what a plain parameter is in a proof."""
+"""Writes the text of terms: lists, nested tuples, and what a plain parameter is in a proof."""
 
 import re
 from pathlib import Path
@@ -12,14 +12,14 @@ def listed(items):
 
 
 def paired(items, last='tt'):
-    """(a, (b, last)), which is how the logic has the parameters of a function."""
+    """Returns (a, (b, last)): the logic takes the parameters of a function in this form."""
     for item in reversed(list(items)):
         last = f'({item}, {last})'
     return last
 
 
 def product(items, last='Unit {0}'):
-    """The type of such a tuple."""
+    """Returns the type of such a tuple."""
     text = last
     for item in reversed(list(items)):
         text = f'{item} × {text}' if text == last else f'{item} × ({text})'
@@ -27,12 +27,12 @@ def product(items, last='Unit {0}'):
 
 
 def part(i):
-    """Takes part i of such a tuple."""
+    """Returns the text that takes part i of such a tuple."""
     return ' .1' * i + ' .0'
 
 
 def part_of_many(i, count):
-    """Likewise of a tuple that has nothing behind its last part."""
+    """Does the same for a tuple that has nothing behind its last part."""
     return ' .1' * i if i == count - 1 else part(i)
 
 
@@ -45,13 +45,13 @@ def subscript(number):
 
 
 def filled(template, **values):
-    """A file of this folder, with each @name@ replaced."""
+    """Returns the text of a file of this folder, with each @name@ replaced."""
     text = (Path(__file__).parent / template).read_text()
     return re.sub(r'@(\w+)@', lambda found: str(values[found[1]]), text)
 
 
 class Number:
-    """A plain parameter's type: a number of some width, or a bool."""
+    """The type of a plain parameter: a number of some width, or a bool."""
 
     def __init__(self, rust):
         self.rust = rust
@@ -69,7 +69,7 @@ class Number:
         return f'({term} < 2 ^ {WIDTHS[self.rust]})'
 
     def owned(self, term, fit):
-        """The step that has what the parameter owns, for nothing."""
+        """Returns the step that gets what the parameter owns; it needs nothing."""
         if self.is_bool:
             return f'owned ! bool (Is bool) (bool-makes 𝓤 H A W) ({term}) _ refl $ fjoin ! $'
         makes = f'{self.rust} (Is {self.rust}) (uint-makes 𝓤 H A W {self.width})'
@@ -77,7 +77,7 @@ class Number:
 
 
 class Numbers:
-    """The plain parameters of a function, as one tuple x. That those of them that are no bools fit is a tuple too."""
+    """The plain parameters of a function, as one tuple x. Another tuple says that each of them but the bools fits."""
 
     def __init__(self, types):
         self.all = [Number(rust) for rust in types]
@@ -87,20 +87,20 @@ class Numbers:
         return f'x{part(i)}'
 
     def fit(self, i, name='fit'):
-        """What says that number i fits."""
+        """Returns the term that says that number i fits."""
         return name + part_of_many(self.sized.index(i), len(self.sized))
 
     def typed(self, i, name='fit'):
-        """What says that the machine value of number i has its type."""
+        """Returns the term that says that the machine value of number i has its type."""
         return '(tt, tt)' if self.all[i].is_bool else f'(tt, record {{ fits = {self.fit(i, name)} }})'
 
     def texts(self):
-        """What the templates take from the numbers."""
+        """Returns the texts that the templates take from the numbers."""
         fits = [self.all[i].fits(self.term(i)) for i in self.sized]
         values = [number.value(self.term(i)) for i, number in enumerate(self.all)]
         fit = [self.fit(i, 'f') if i in self.sized else '' for i in range(len(self.all))]
         owned = [number.owned(self.term(i), fit[i]) for i, number in enumerate(self.all)]
-        # Places of the tally and of the slice come first among all parameters.
+        # The tally and the slice come first among all parameters.
         known = [f'are{part(2 + i)} .1' for i in self.sized]
         return dict(
             type=product(number.denoted for number in self.all),

@@ -1,12 +1,13 @@
-"""The thin sweeps: `*tally = core(*tally, slice, numbers..);`, and calls of them."""
+"""Writes the walks of the thin sweeps, `*tally = core(*tally, slice, numbers..);`, and of calls of them."""
 
 from terms import Numbers, dashed, filled, listed, paired, part, product
 from walk import HERE, SHOWN, Walk, typed
 
 
 def locals_of(count):
-    """Where the MIR has what the sweep takes and makes: _0 is the result, _1 the reference to the tally, _2 the slice,
-    then the numbers; behind them what the core answers, the tally that it gets, a pointer, the slice that it gets."""
+    """Returns the locals of a sweep's MIR that follow the slice. _0 is the result, _1 the reference to the tally, _2
+    the slice; then come the numbers; then what the core returns, the tally that it gets, a pointer, the slice that it
+    gets."""
     return [f'_{i}' for i in range(3, 3 + count)], [f'_{i}' for i in range(3 + count, 7 + count)]
 
 
@@ -37,7 +38,7 @@ def walk(numbers):
 
 
 def open_tally(w):
-    """Opens the borrow of the tally: its record is in memory."""
+    """Opens the borrow of the tally, so that its record is in memory."""
     w.front('obs', 'bor', 'tok0')
     w.text('opens ! tt T.the-row {h = h} b o (λ us.')
     w.replace(3, 'cell', 'own', 'obor', 'obs', 'auth')
@@ -50,7 +51,7 @@ def open_tally(w):
 
 
 def call_core(w, operands, count):
-    """Calls the core and takes apart what it leaves: a tally r, that the contract holds, the slice at its last list."""
+    """Calls the core and takes apart what it leaves: a tally r, the contract's claim, the slice at its last list."""
     w.comment('the call')
     w.front('toks', 'ws')
     w.group(2, 'use1 W (raw (Core 𝓤 H A .pre (to-core _))) (goes-core _ was)')
@@ -89,7 +90,7 @@ def call_core(w, operands, count):
 
 
 def close_tally(w, answer):
-    """Stores what the core answered, and closes the borrow at it."""
+    """Stores the tally that the core returned, and closes the borrow at it."""
     w.text(f'peeks ! {SHOWN} r (w ∷ []) (λ is.')
     w.step(f'land ! {HERE} (init ! {w.at(answer)} refl {typed("r", "is")})')
     place = f'(from ! (hop ! {w.look("_1")} (stop !)))'
@@ -103,7 +104,7 @@ def close_tally(w, answer):
 
 
 def mir(numbers):
-    """The locals and the body of a thin sweep's MIR, f being the core's name."""
+    """Returns the locals and the body of a thin sweep's MIR, with f for the core's name."""
     count = len(numbers.all)
     given, made = locals_of(count)
     answer, copied, pointer, slice_ = (name[1:] for name in made)

@@ -1,16 +1,16 @@
-"""A walk over the MIR of a function, step by step. It keeps the items of the context by name, in their order, and
-works out the positions that the steps are written with."""
+"""Writes a walk over the MIR of a function, step by step. A walk keeps the items of the context by name, in their
+order, and computes the positions with which the steps are written."""
 
 from terms import listed, subscript
 
-# What a step needs of the struct that is lent.
+# The terms about the lent struct that a step needs.
 SHOWN = 'T.the-row (Is T.the-row) (shows 𝓤 H A T.the-row)'
 # The place of a local itself.
 HERE = '(from ! (stop !))'
 
 
 def typed(record, known):
-    """That the machine value of a record has its type."""
+    """Returns the term that says that the machine value of a record has its type."""
     return f'(LL.lawful T.the-type T′.the-laws 𝓤 H A W .typed {record} _ {known} .0)'
 
 
@@ -27,7 +27,7 @@ class Walk:
         self.text(f'{words} $')
 
     def line(self):
-        """The next step begins a line."""
+        """Ends the line: the next step begins another."""
         if self.words:
             self.lines.append(self.indent + ' '.join(self.words))
             self.words = []
@@ -37,12 +37,12 @@ class Walk:
         self.lines.append(f'{self.indent}-- {words}')
 
     def context(self):
-        """A comment with the items and their positions, but for those that only say that a local dies."""
+        """Writes a comment with the items and their positions, but for those that only say that a local dies."""
         named = [f'{i}: {name}' for i, name in enumerate(self.items) if not name.startswith('dies')]
         self.comment(f'[{"; ".join(named)}]')
 
     def end(self, words):
-        """The last step; what is open is closed."""
+        """Writes the last step and closes what is open."""
         self.text(words)
         self.words[-1] += ')' * self.open
         self.line()
@@ -57,7 +57,7 @@ class Walk:
         return f'(look ! {self.at(name)} refl)'
 
     def replace(self, count, *names):
-        """The first items become others."""
+        """Replaces the first items by others."""
         self.items[:count] = names
 
     def rename(self, name, other):
@@ -79,7 +79,7 @@ class Walk:
         self.replace(1)
 
     def group(self, count, rule):
-        """The first items are taken together by a rule, and become one."""
+        """Joins the first items into one by a rule."""
         self.step(f'group ! {count}')
         self.step(rule)
         self.replace(count, 'pre')
@@ -99,7 +99,7 @@ class Walk:
         self.line()
 
     def passes(self, known):
-        """The parameters get their values, each with what says that it has its type."""
+        """Gives the parameters their values, each with the term that says that it has its type."""
         for i, has in enumerate(known):
             self.step(f'pass1 ! (init ! {self.at(f"_{i + 1}")} refl {has})')
         self.step('pass0 !')
@@ -119,7 +119,7 @@ class Walk:
         return text
 
     def reborrow(self, slice_, pointer, to, room):
-        """`to = &mut *slice`, by way of a pointer."""
+        """Writes `to = &mut *slice`, by way of a pointer."""
         place = self.at(slice_)
         first = f'look-in ! {place} (sub ! 0 refl (whole !))'
         second = f'look-in ! {place} (sub ! 1 refl (whole !))'
@@ -129,7 +129,7 @@ class Walk:
         self.assign(f'agg ! (and-then ! ({self.load(pointer)}) ({length}))', to, has)
 
     def returns(self, count):
-        """Returns `_0`, and the locals die."""
+        """Returns `_0` and ends the locals."""
         self.line()
         self.step(f'returns ! {self.look("_0")}')
         self.line()

@@ -2,9 +2,9 @@
 // condition.
 use image::Geometry;
 use imgproc::illumination::BackgroundDivideConfig;
+use imgproc::morphology::tally;
 use imgproc::reading::Read;
 use imgproc::reading::ReadingConfig;
-use imgproc::morphology::tally;
 use imgproc::threshold::SauvolaConfig;
 use pgm::Parsed;
 ghost use mathlib.Core.Path.{_≡_};

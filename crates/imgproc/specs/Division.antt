@@ -1,8 +1,8 @@
 -- Document 01, part 3: division by the background, and the contract of `background_divide_into`. Definitions only.
-use Prim.Native.Nat.{ℕ, _*_, _/_, _≤_, _<_, min, max}
+use Prim.Native.Nat.{ℕ, _+_, _*_, _/_, _≤_, _<_, min, max}
 use mathlib.Core.Path.{_≡_}
 use mathlib.Core.List.{List}
-use lib.ListN.{length}
+use lib.ListN.{length, getD}
 use Rattle.image.specs.declared.Geometry.{Geometry}
 use Rattle.image.specs.Layout.{Kept}
 use Rattle.image.specs.Plane.{plane, pixel, part, picture}
@@ -11,6 +11,7 @@ use Rattle.imgproc.specs.declared.morphology.tally.Tally.{Tally}
 use Rattle.imgproc.specs.Tallies.{Raised, HasRoom}
 use Rattle.imgproc.specs.Reach.{sweepWalks}
 use Rattle.imgproc.specs.Morphology.{sweptRect, closed}
+use Rattle.imgproc.specs.Sweeps.{Apart, Rowed}
 use Rattle.imgproc.specs.Refusals.{elementAndRoom}
 use Rattle.imgproc.specs.Calls.{Loan, Operator, Paired}
 
@@ -38,6 +39,17 @@ division =
     record { own = elementAndRoom; values = λ d w h. 2 * sweepWalks (d .«structuring_element») w h; make = divided }
 
 -- ---- inside: what the parts of an accepted call ask and leave
+
+-- n pixels from `from` on and n backgrounds from `at` on, apart, which are to be divided
+pub record PlaneReady (d : BackgroundDivideConfig) (from at n : ℕ) (ws : List ℕ) : Type 0 where
+  pub floor : 0 < d .«denominator_floor»
+  pub pixels : from + n ≤ length ws
+  pub backgrounds : at + n ≤ length ws
+  pub apart : Apart from n at n
+
+-- each background replaced by the quotient of its pixel, and nothing else changed
+abbrev pub PlaneDivided : BackgroundDivideConfig → ℕ → ℕ → ℕ → List ℕ → List ℕ → Type 0
+PlaneDivided d from at n ws ws′ = Rowed at n (λ i. quotient d (getD ws (from + i) 0) (getD ws (at + i) 0)) ws ws′
 
 -- a picture that is packed into the first plane of the workspace, closed and divided in the second
 pub record FlattenReady (tally : Tally) (src : List ℕ) (g : Geometry) (d : BackgroundDivideConfig) (ws : List ℕ)

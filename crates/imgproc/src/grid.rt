@@ -5,21 +5,20 @@ pub mod config;
 pub mod queries;
 pub(crate) mod tiles;
 
-pub use config::SauvolaFloats;
-pub use config::TileThresholdConfig;
-pub use config::TileThresholdMethod;
-pub use queries::TileSkip;
-pub use queries::TileThreshold;
-pub use queries::TileThresholdGrid;
-
 use crate::Check;
 use crate::ImgProcError;
 use crate::grid::bytes::write_skips;
 use crate::grid::bytes::write_thresholds;
 use crate::grid::tiles::gather;
 use crate::grid::tiles::tiles_along;
+pub use config::SauvolaFloats;
+pub use config::TileThresholdConfig;
+pub use config::TileThresholdMethod;
 use image::Geometry;
 use image::Layout;
+pub use queries::TileSkip;
+pub use queries::TileThreshold;
+pub use queries::TileThresholdGrid;
 ghost use mathlib.Core.Path.{_≡_};
 ghost use Prim.Native.Nat.{_*_, _≤_, _<_};
 ghost use lib.ListN.{length};

@@ -8,12 +8,18 @@ use crate::morphology::tally::start;
 use image::Geometry;
 use image::Layout;
 ghost use mathlib.Core.Path.{_≡_};
-ghost use Prim.Native.Nat.{ℕ, _+_, _*_, _≤_, _<_};
-ghost use lib.ListN.{length, getD};
-ghost use Rattle.image.specs.Layout.{Kept};
-ghost use Rattle.image.specs.Plane.{part, picture, overwritten, tabulate};
+ghost use Prim.Native.Nat.{_<_};
 ghost use Rattle.imgproc.specs.Refusals.{first, divisionSettings};
-ghost use Rattle.imgproc.specs.Division.{divisionDefaults, quotient, dividedBy, FlattenReady, Flattened, DivideReady, division};
+ghost use Rattle.imgproc.specs.Division.{
+  divisionDefaults,
+  quotient,
+  PlaneReady,
+  PlaneDivided,
+  FlattenReady,
+  Flattened,
+  DivideReady,
+  division,
+};
 ghost use Rattle.imgproc.specs.Calls.{Serves, Works};
 ghost use Rattle.imgproc.specs.MorphologyCalls.{comparedAnswer};
 
@@ -51,41 +57,21 @@ fn divide(source: u8, background: u8, config: BackgroundDivideConfig) -> u8
     if value < 255 { value as u8 } else { 255 }
 }
 
-// A row of backgrounds, each replaced by the quotient of its source pixel.
-fn divide_row(src: &[u8], background: &mut [u8], config: BackgroundDivideConfig)
-    requires { ⌜ (0 < config .«denominator_floor») × (length (now src) ≡ length (now background)) ⌝ }
-    ensures { λ _. ⌜ now (background .exit) ≡ tabulate (λ i. quotient config (getD (now (src .entry)) i 0) (getD (now (background .entry)) i 0)) (length (now (background .entry))) ⌝ }
-{
-    let mut i = 0;
-    while i < background.len() {
-        background[i] = divide(src[i], background[i], config);
-        i += 1;
-    }
-}
-
-// The packed backgrounds of a picture, at an offset of the workspace, each replaced by its quotient.
+// Replaces each background of the packed plane at `at` by the quotient of its pixel in the packed plane at `from`.
 pub(crate) fn divide_plane(
-    src: &[u8],
-    geometry: Geometry,
     config: BackgroundDivideConfig,
     workspace: &mut [u8],
+    from: usize,
     at: usize,
+    count: usize,
 )
-    requires { ⌜ (0 < config .«denominator_floor») × (Kept (length (now src)) geometry × (at + geometry .width * geometry .height ≤ length (now workspace))) ⌝ }
-    ensures { λ _. ⌜ now (workspace .exit) ≡ overwritten at (dividedBy config (geometry .width) (geometry .height) (picture (now (src .entry)) geometry) (part at (geometry .width * geometry .height) (now (workspace .entry)))) (now (workspace .entry)) ⌝ }
+    requires { ⌜ PlaneReady config from at count (now workspace) ⌝ }
+    ensures { λ _. ⌜ PlaneDivided config from at count (now (workspace .entry)) (now (workspace .exit)) ⌝ }
 {
-    let width = geometry.width;
-    let height = geometry.height;
-    let mut y = 0;
-    while y < height {
-        let to = at + y * width;
-        let to_end = to + width;
-        divide_row(
-            image::row(src, geometry, y),
-            &mut workspace[to..to_end],
-            config,
-        );
-        y += 1;
+    let mut i = 0;
+    while i < count {
+        workspace[at + i] = divide(workspace[from + i], workspace[at + i], config);
+        i += 1;
     }
 }
 
@@ -107,7 +93,7 @@ pub(crate) fn flatten(
     let element = config.structuring_element;
     let _packed = image::pack(src, geometry, workspace, 0);
     let raised = close_rect_into(tally, workspace, 0, plane, spare, element, width, height);
-    divide_plane(src, geometry, config, workspace, plane);
+    divide_plane(config, workspace, 0, plane, plane);
     raised
 }
 

@@ -2,6 +2,7 @@
 pub mod grid;
 pub mod illumination;
 pub mod morphology;
+mod reach;
 pub mod reading;
 pub mod root;
 pub mod threshold;

@@ -3,12 +3,13 @@ pub(crate) mod tables;
 
 use crate::Check;
 use crate::ImgProcError;
+use crate::reach;
 use crate::threshold::tables::build_tables;
 use crate::threshold::tables::rect_sum;
 use image::Geometry;
 use image::Layout;
 ghost use mathlib.Core.Path.{_≡_};
-ghost use Prim.Native.Nat.{ℕ, _+_, _-_, _≤_, _<_, min};
+ghost use Prim.Native.Nat.{ℕ, _≤_, _<_};
 ghost use lib.ListN.{length, getD};
 ghost use Rattle.image.specs.Layout.{Kept, sideLimit};
 ghost use Rattle.image.specs.Plane.{picture};
@@ -56,40 +57,6 @@ pub fn binarized_number(answer: Binarized) -> u32
     match answer {
         Binarized::Done => 0,
         Binarized::Refused(error) => crate::number(error),
-    }
-}
-
-// What of a side lies within the radius of a place: from `from` up to `to`, which is left out.
-struct Span {
-    from: usize,
-    to: usize,
-}
-
-fn span_from(x: usize, radius: usize) -> usize
-    ensures { λ r. ⌜ r ≡ x - radius ⌝ }
-{
-    if radius < x { x - radius } else { 0 }
-}
-
-// The radius may be any number, so nothing is added to it before it is known to be small.
-fn span_to(x: usize, radius: usize, side: usize) -> usize
-    requires { ⌜ x < side ⌝ }
-    ensures { λ r. ⌜ r ≡ min (x + radius + 1) side ⌝ }
-{
-    if radius < side - x {
-        x + radius + 1
-    } else {
-        side
-    }
-}
-
-fn span_of(x: usize, radius: usize, side: usize) -> Span
-    requires { ⌜ x < side ⌝ }
-    ensures { λ r. ⌜ (r .from ≡ x - radius) × (r .to ≡ min (x + radius + 1) side) ⌝ }
-{
-    Span {
-        from: span_from(x, radius),
-        to: span_to(x, radius, side),
     }
 }
 
@@ -147,12 +114,10 @@ pub(crate) fn threshold_at_pixel(
 {
     let wide = geometry.width + 1;
     let squares = at + wide * (geometry.height + 1);
-    let across = span_of(x, config.radius, geometry.width);
-    let down = span_of(y, config.radius, geometry.height);
-    let x0 = across.from;
-    let x1 = across.to;
-    let y0 = down.from;
-    let y1 = down.to;
+    let x0 = reach::low(x, config.radius);
+    let x1 = reach::high(x, config.radius, geometry.width) + 1;
+    let y0 = reach::low(y, config.radius);
+    let y1 = reach::high(y, config.radius, geometry.height) + 1;
     let sum = rect_sum(workspace, at, wide, x0, y0, x1, y1);
     let sum_sq = rect_sum(workspace, squares, wide, x0, y0, x1, y1);
     let count = (x1 - x0) * (y1 - y0);

@@ -7,9 +7,9 @@ use imgproc::grid::Built;
 use imgproc::grid::TileSkip;
 use imgproc::grid::TileThreshold;
 use imgproc::morphology::Compared;
+use imgproc::morphology::tally;
 use imgproc::reading::Read;
 use imgproc::reading::ReadingCounts;
-use imgproc::morphology::tally;
 use imgproc::threshold::Binarized;
 
 pub type Answer = [usize; 5];

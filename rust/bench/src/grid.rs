@@ -1,4 +1,4 @@
-//! Building the grid with the default tiles, by both methods. The Rust allocates its grid at each call.
+//! Times the grid's build with the default tiles, by both methods. The Rust allocates its grid at each call.
 
 use crate::time::{row, Pair, Row};
 use imgproc::grid::{self as ours, TileThresholdConfig, TileThresholdMethod};

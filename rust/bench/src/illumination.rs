@@ -1,4 +1,4 @@
-//! Division by the background with the default settings, element 31.
+//! Times division by the background with the default settings, element 31.
 
 use crate::through::pictures;
 use crate::time::{Pair, Row};

@@ -1,4 +1,4 @@
-//! Rows to and from a packed plane, and single pixels and rows, over a whole picture.
+//! Times copies to and from a packed plane, and calls for single pixels and rows, over a whole picture.
 
 use crate::time::{row, Pair, Row};
 use imgproc::image;

@@ -1,5 +1,5 @@
-//! Each ported call against the published Rust: one process, the same buffers, warm, in turns. Prints the medians'
-//! ratios, ours to the Rust's, as a table; below 1 is faster than the Rust.
+//! Times each ported call against the published Rust, in turns in one process on the same warm buffers. Prints a table
+//! of ratios of medians, ours to the Rust's. Below 1 is faster than the Rust.
 
 mod through;
 mod time;
@@ -13,7 +13,7 @@ macro_rules! subjects {
     };
 }
 
-// A subject is measured when its line stands here and its module in imgproc.
+// Each subject is a module of this folder. To measure another, add its line here.
 subjects! {
     image
     morphology

@@ -1,4 +1,4 @@
-//! Erosion, dilation, opening and closing with a small and a large kernel.
+//! Times erosion, dilation, opening and closing with a small and a large kernel.
 
 use crate::through::pictures;
 use crate::time::{Pair, Row};

@@ -1,4 +1,4 @@
-//! The reading with the default settings, against the chain of the Rust's calls with its own buffers kept.
+//! Times the reading with the default settings against a chain of the Rust's calls, which keeps its own buffers.
 
 use crate::time::{row, Pair, Row};
 use imgproc::reading::{bytes_len, reading, words_len, ReadingConfig};
@@ -45,7 +45,7 @@ fn view_mut(data: &mut [u8], g: Geometry) -> Gray8ViewMut<'_> {
     Gray8ViewMut::new(data, g.width, g.height, g.stride).expect("a good layout")
 }
 
-/// Divided, opened, thresholded, then the pixels of skipped tiles made light.
+/// Divides, opens and thresholds the picture, then makes the pixels of skipped tiles light.
 fn chain(pair: &mut Pair, theirs: &mut Theirs) {
     let Pair { src, dst, g } = pair;
     let packed = Geometry::packed(g.width, g.height);

@@ -1,4 +1,4 @@
-//! One root for each pixel, against the processor's.
+//! Times one root for each pixel against the processor's.
 
 use crate::time::{row, Row};
 use imgproc::root::root;

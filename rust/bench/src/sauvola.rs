@@ -1,4 +1,4 @@
-//! Sauvola's threshold with the default settings, radius 8.
+//! Times Sauvola's threshold with the default settings, radius 8.
 
 use crate::through::pictures;
 use crate::time::{Pair, Row};

@@ -1,4 +1,4 @@
-//! Calls from a picture to a picture: one state, one row.
+//! Times calls from a picture to a picture: makes one state and one row of the table for each.
 
 use crate::time::{row, Pair, Row};
 use imgproc::Refusal;
@@ -7,13 +7,13 @@ use qr_lab_imgproc::ImgProcResult;
 
 pub struct Lent<W, T> {
     pub pair: Pair,
-    /// Ours, as long as it has to be.
+    /// Our workspace, of the needed length.
     pub workspace: Vec<W>,
-    /// The Rust's own.
+    /// The Rust's workspace.
     pub theirs: T,
 }
 
-/// Ours and the Rust's call on one pair of pictures, each with its own workspace, kept from call to call.
+/// Times our call and the Rust's on one pair of pictures. Each keeps its own workspace from call to call.
 pub fn pictures<W: Default + Clone, T: Default>(
     name: String, room: impl Fn(usize, usize) -> usize, ours: impl Fn(&mut Pair, &mut [W]) -> Result<(), Refusal>,
     rust: impl Fn(Gray8View<'_>, Gray8ViewMut<'_>, &mut T) -> ImgProcResult<()>,

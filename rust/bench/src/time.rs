@@ -1,4 +1,4 @@
-//! Times, medians, and the buffers that both sides share.
+//! Takes times and medians, and holds the buffers that both sides share.
 
 use imgproc::Geometry;
 use std::time::{Duration, Instant};
@@ -29,7 +29,7 @@ impl Pair {
     }
 }
 
-/// Light that falls off to one side, with noise and dark marks: neither side has a case that it is quick in.
+/// Makes a picture whose light falls off to one side, with noise and dark marks, so that no side has an easy case.
 fn picture(width: usize, height: usize) -> Vec<u8> {
     let mut state = 1u64;
     let mut pixels = Vec::with_capacity(width * height);
@@ -44,7 +44,7 @@ fn picture(width: usize, height: usize) -> Vec<u8> {
     pixels
 }
 
-/// One row of the table: each size once, ours and the Rust in turns on one state.
+/// Makes one row of the table: for each size both sides run in turns on one state.
 pub fn row<S>(
     name: impl Into<String>, state: impl Fn(usize, usize) -> S, ours: impl Fn(&mut S), rust: impl Fn(&mut S),
     left: impl Fn(&S) -> &[u8],
@@ -54,7 +54,7 @@ pub fn row<S>(
         .iter()
         .map(|&(width, height)| {
             let mut state = state(width, height);
-            // The first call of each warms its buffers; both have to leave the same.
+            // The first call of each side warms its buffers. Both have to leave the same bytes.
             ours(&mut state);
             let ours_left = left(&state).to_vec();
             rust(&mut state);

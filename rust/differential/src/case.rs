@@ -1,4 +1,4 @@
-//! One case: what our side left behind, held to what is expected of it.
+//! One case: compares what our side answers and leaves with what is expected.
 
 use crate::corner::Corner;
 use crate::fault::Fault;
@@ -15,19 +15,19 @@ pub enum Buffer {
 /// The numbers written through pointers, by name.
 pub type Outs = Vec<(&'static str, u64)>;
 
-/// What our side answered and left: the number, the numbers written through pointers, every lent buffer.
+/// The outcome of our side: the number, the numbers written through pointers, every lent buffer.
 pub struct Outcome {
     pub number: u32,
     pub outs: Outs,
     pub lent: Vec<Buffer>,
 }
 
-/// What a buffer has to hold afterwards.
+/// The contents that a buffer must have afterwards.
 pub enum Left<'a> {
-    /// The workspace of an accepted call: nothing is promised.
+    /// The workspace of an accepted call, whose contents are unspecified.
     Open,
     Bytes(Cow<'a, [u8]>),
-    /// The noise of this seed, as it was lent.
+    /// The noise of this seed, as before the call.
     Noise(u64),
 }
 
@@ -37,7 +37,7 @@ pub struct Expected<'a> {
     pub lent: Vec<Left<'a>>,
 }
 
-/// Where a fault can be planted in the buffers of an accepted call: (buffer, byte).
+/// Places in the buffers of an accepted call where a fault can be planted: (buffer, byte).
 #[derive(Default)]
 pub struct Places {
     /// A byte that the call writes.
@@ -49,25 +49,25 @@ pub struct Places {
 }
 
 pub trait Case: Clone {
-    /// The subject that the case counts for.
+    /// Returns the subject that the case counts for.
     fn name(&self) -> &'static str;
     fn ours(&self) -> Outcome;
-    /// An error where the expectations themselves disagree.
+    /// Returns what is expected, or an error if two expectations disagree.
     fn expected(&self) -> Result<Expected<'_>, String>;
-    /// Whether the safe call says the same; only asked when the rest is right.
+    /// Checks that the safe call answers the same. It runs only if the rest agrees.
     fn safe(&self, expected: &Expected<'_>) -> Result<(), String>;
     fn places(&self) -> Places;
-    /// The corners of the domain that it stands at.
+    /// Returns the corners of the domain at which the case stands.
     fn corners(&self) -> Vec<Corner> {
         Vec::new()
     }
-    /// Cases that are simpler, to look for the smallest one that still differs.
+    /// Returns simpler cases, for the search for the smallest one that still differs.
     fn smaller(&self) -> Vec<Self>;
     fn tell(&self) -> String;
 }
 
-/// The first difference of a case, else what was expected of it. A fault is planted in our side's answer where it fits,
-/// and is then taken.
+/// Runs a case. Returns the first difference, or else what was expected. If a fault is given and fits the case, it is
+/// planted in our side's answer, and taken out of `fault`.
 pub fn held<'a, C: Case>(case: &'a C, fault: &mut Option<Fault>) -> Result<Expected<'a>, String> {
     let expected = case.expected()?;
     let mut outcome = case.ours();
@@ -115,7 +115,7 @@ fn same<T: PartialEq + std::fmt::Debug>(index: usize, want: &[T], got: &[T]) -> 
     Err(format!("lent buffer {index} holds {:?} at {at} where {:?} is expected", got[at], want[at]))
 }
 
-/// The simplest case reached by taking each simplification that still differs.
+/// Returns the simplest case, found by following each simplification that still differs.
 pub fn smallest<C: Case>(case: &C, what: String) -> (C, String) {
     let (mut case, mut what) = (case.clone(), what);
     let mut tries = 0;
@@ -134,7 +134,7 @@ pub fn smallest<C: Case>(case: &C, what: String) -> (C, String) {
     }
 }
 
-/// Bytes for a report, cut where they are many.
+/// Lists bytes for a report, and cuts the list if they are many.
 pub fn listed(bytes: &[u8]) -> String {
     const MOST: usize = 400;
     if bytes.len() <= MOST {

@@ -1,22 +1,22 @@
-//! Corners of the domain: sides and settings at the ends of what is compared with the Rust.
+//! The corners of the domain: sides and settings at the limits of what is compared with the Rust.
 
 use imgproc::grid::TileThresholdConfig;
 use imgproc::MAX_SIDE;
 use Corner::*;
 
-/// The largest radius of the domain. The Rust's sums with a radius wrap near 2^64; from here on the clipped window is
-/// the whole picture.
+/// The largest radius of the domain. The Rust's sums with a radius wrap near 2^64; from this radius on the clipped
+/// window is the whole picture.
 pub const LARGEST_RADIUS: usize = 65_536;
-/// The largest offset of the domain: the Rust's sum of base and offset overflows above.
+/// The largest offset of the domain. With a larger one the Rust's sum of base and offset can overflow.
 pub const LARGEST_OFFSET: i16 = 32_512;
 
 #[derive(Clone, Copy, Debug, PartialEq, Eq, PartialOrd, Ord)]
 pub enum Corner {
     LargestPicture,
-    /// Longer than both sides of the picture, but not the largest.
+    /// A kernel longer than both sides of the picture, but not the largest.
     KernelAbovePicture,
     LargestKernel,
-    /// The kernel of the division's closing, likewise.
+    /// The same for the kernel of the division's closing.
     ElementAbovePicture,
     LargestElement,
     /// Both tile sides above those of the picture, but not both the largest.
@@ -29,7 +29,7 @@ pub enum Corner {
 }
 
 impl Corner {
-    /// As a report names it.
+    /// Returns the name for a report.
     pub fn label(self) -> &'static str {
         match self {
             LargestPicture => "4096 x 4096",
@@ -56,12 +56,12 @@ pub const NEIGHBORHOOD: &[Corner] = &[LargestNeighborhood];
 pub const RADIUS: &[Corner] = &[LargestRadius];
 pub const OFFSET: &[Corner] = &[LargestOffset, LeastOffset];
 
-/// Those that hold of the corners given.
+/// Returns those of the given corners that hold.
 fn standing<const N: usize>(list: [(Corner, bool); N]) -> Vec<Corner> {
     list.into_iter().filter(|&(_, holds)| holds).map(|(corner, _)| corner).collect()
 }
 
-/// Whether a kernel is longer than both sides, yet not the largest.
+/// Tells whether a kernel is longer than both sides, yet not the largest.
 fn above(kernel: usize, width: usize, height: usize) -> bool {
     kernel > width.max(height) && kernel != usize::MAX
 }
@@ -87,7 +87,7 @@ pub fn tile(tile_width: usize, tile_height: usize, width: usize, height: usize) 
     standing([(TileAbovePicture, tile_width > width && tile_height > height && !largest), (LargestTile, largest)])
 }
 
-/// Of a grid's settings, its tile sides included.
+/// Returns the corners of a grid's settings, its tile sides included.
 pub fn grid(config: &TileThresholdConfig, width: usize, height: usize) -> Vec<Corner> {
     let mut list = tile(config.tile_width, config.tile_height, width, height);
     list.extend(standing([
@@ -98,7 +98,7 @@ pub fn grid(config: &TileThresholdConfig, width: usize, height: usize) -> Vec<Co
     list
 }
 
-/// Kernels at the corners: the least odd one above both sides, and the largest.
+/// Returns the kernels at the corners: the least odd one above both sides, and the largest.
 pub fn kernels(width: usize, height: usize) -> [usize; 2] {
     [(width.max(height) + 1) | 1, usize::MAX]
 }

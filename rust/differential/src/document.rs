@@ -1,4 +1,4 @@
-//! Refusals that document 01 adds to the Rust's, written from its words: 4, 8, 9 and 10.
+//! The refusals that document 01 adds to the Rust's, 4, 8, 9 and 10, written from its words.
 
 use imgproc::Geometry;
 
@@ -15,7 +15,7 @@ pub fn side_too_large(g: Geometry) -> bool {
     g.width > 4096 || g.height > 4096
 }
 
-/// The whole layout list, exact beyond 64 bits, for lengths that no slice of the Rust can have.
+/// Returns the number of a layout, exact beyond 64 bits, for lengths that no slice of the Rust can have.
 pub fn layout(len: usize, g: Geometry) -> u32 {
     let needed = |g: Geometry| g.stride as u128 * (g.height as u128 - 1) + g.width as u128;
     if g.width == 0 || g.height == 0 {
@@ -31,7 +31,7 @@ pub fn layout(len: usize, g: Geometry) -> u32 {
     }
 }
 
-/// Whether the w * h bytes from `at` on do not lie in a workspace of `room` bytes.
+/// Tells whether the w * h bytes from `at` on do not all lie in a workspace of `room` bytes.
 pub fn plane_outside(room: usize, at: usize, g: Geometry) -> bool {
     (room as u128) < at as u128 + g.width as u128 * g.height as u128
 }

@@ -1,4 +1,4 @@
-//! Faults planted in our side's answer, to see that the comparison reports each of them.
+//! Plants faults in our side's answer. The self-test checks that the comparison reports each of them.
 
 use crate::case::{Buffer, Outcome, Places};
 use Fault::*;
@@ -31,7 +31,7 @@ pub enum Fault {
 pub const ANSWERING: &[Fault] = &[Refusal, Accepted, Refused];
 /// Faults of a call that reads one lent buffer.
 pub const ASKING: &[Fault] = &[Source, Refusal, Accepted, Refused, SpoiltBuffer(0), Past(0)];
-/// Seven of every call that writes, then two of each buffer written.
+/// Seven faults of every call that writes, then two of each written buffer.
 const WRITING: &[Fault] = &[
     Byte,
     Beside,
@@ -48,13 +48,13 @@ const WRITING: &[Fault] = &[
     Past(3),
 ];
 
-/// Faults of a call that reads its first lent buffer and writes so many more, up to three.
+/// Returns the faults of a call that reads its first lent buffer and writes this many more, up to three.
 pub const fn writing(buffers: usize) -> &'static [Fault] {
     WRITING.split_at(7 + 2 * buffers).0
 }
 
 // Faults of the numbers that a call gives, each by itself.
-/// The byte, or the yes or no, of a call that asks.
+/// The byte, or the yes or no, of a query.
 pub const VALUE: &[Fault] = &[Count("value"), SpoiltCount("value")];
 pub const COMPARISONS: &[Fault] = &[Count("comparisons"), SpoiltCount("comparisons")];
 pub const TILES: &[Fault] = &[Count("tiles_x"), SpoiltCount("tiles_x"), Count("tiles_y"), SpoiltCount("tiles_y")];
@@ -68,7 +68,7 @@ pub const JUDGED: &[Fault] = &[
 ];
 
 impl Fault {
-    /// Changes the outcome if the fault fits this case.
+    /// Changes the outcome if the fault fits this case, and tells whether it does.
     pub fn plant(self, outcome: &mut Outcome, places: &Places) -> bool {
         let accepted = outcome.number == 0;
         match self {

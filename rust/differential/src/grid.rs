@@ -1,4 +1,4 @@
-//! The tile grid: building it, and queries to it.
+//! Compares the tile grid: its build, and queries to it.
 
 use crate::corner::{NEIGHBORHOOD, OFFSET, PICTURE, TILE};
 use crate::fault;

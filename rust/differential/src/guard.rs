@@ -1,4 +1,4 @@
-//! Buffers lent with a guard on both sides, so that a write past either end is seen.
+//! Buffers with a guard on both sides, so that a write past either end is noticed.
 
 use crate::rng::Word;
 use std::ops::{Deref, DerefMut};
@@ -21,7 +21,7 @@ impl<T: Word> Guarded<T> {
         self.all.starts_with(&guard) && self.all.ends_with(&guard)
     }
 
-    /// The first number past the end of the lent part.
+    /// Returns the first number past the end of the lent part.
     pub fn past(&mut self) -> &mut T {
         let end = self.all.len() - LENGTH;
         &mut self.all[end]

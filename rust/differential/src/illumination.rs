@@ -1,4 +1,4 @@
-//! Division by the background.
+//! Compares division by the background.
 
 use crate::case::Buffer;
 use crate::corner::{self, Corner};
@@ -52,7 +52,7 @@ impl Operator for Division {
         theirs::background_divide_into(src, dst, &config, &mut IlluminationWorkspace::default())
     }
 
-    /// Those of the closing: raising the background to the floor is not counted.
+    /// Returns the comparisons of the closing. Raising the background to the floor is not counted.
     fn comparisons(&self, width: usize, height: usize) -> Result<u64, String> {
         plain::comparisons(width, height, self.0.structuring_element, 2)
     }
@@ -120,7 +120,7 @@ fn fixed(run: &mut Run, plan: &Plan) -> Checked {
             run.case(&Through::packed(op, src, w, h, seed))
         })?;
     }
-    // One pixel is its own background: every value with every floor and target in the long run.
+    // One pixel is its own background. The long run tries every value with every floor and target.
     let all: Vec<u8> = (0..=255).collect();
     let targets: &[u8] = if plan.large { &all } else { &[0, 1, 127, 200, 254, 255] };
     let floors: &[u8] = if plan.large { &all[1..] } else { &[1, 2, 7, 8, 9, 100, 254, 255] };

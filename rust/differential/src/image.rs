@@ -1,4 +1,4 @@
-//! The image calls: layout, pixels and rows, packed planes.
+//! Compares the image calls: layout, pixels and rows, packed planes.
 
 use crate::corner;
 use crate::fault::Fault::{self, Accepted, Beside, Byte, Past, Refusal, Refused, SpoiltBuffer};
@@ -12,7 +12,7 @@ mod planes;
 
 const SET_FAULTS: &[Fault] = &[Byte, Beside, Refusal, Accepted, Refused, SpoiltBuffer(0), Past(0)];
 
-/// A call that has no settings besides a layout.
+/// Declares a call that has no settings besides a layout.
 const fn subject(
     name: &'static str, refuses: &'static [u32], faults: &'static [&'static [Fault]], round: u64,
     random: fn(&mut Run, &mut Rng) -> Checked, fixed: fn(&mut Run, &Plan) -> Checked,
@@ -22,7 +22,7 @@ const fn subject(
 
 pub const SUBJECTS: &[Subject] = &[
     subject(layout::NAME, &[1, 2, 3, 4], &[ANSWERING], 300_000, layout::random, layout::fixed),
-    // The fixed cases of the line above have such lengths too.
+    // It needs no fixed cases: those of the line above have such lengths too.
     subject(layout::LONG, &[1, 2, 3, 4], &[ANSWERING], 100_000, layout::random_long, no_fixed),
     subject(
         "get",

@@ -1,4 +1,4 @@
-//! Layouts, right and wrong, and pictures to fill them.
+//! Makes layouts, right and wrong, and pictures to fill them.
 
 use crate::rng::{Rng, Word};
 use imgproc::{Geometry, MAX_SIDE};
@@ -26,18 +26,18 @@ pub const EDGES: [usize; 19] = [
     usize::MAX,
 ];
 
-/// The needed length of a layout that is known to fit.
+/// Returns the needed length of a layout that is known to fit.
 pub fn needed(g: Geometry) -> usize {
     g.stride * (g.height - 1) + g.width
 }
 
-/// A slice that holds the picture, with padding and a tail at times; all of it noise.
+/// Makes a slice of noise that holds the picture, at times with padding and a tail.
 pub fn good(rng: &mut Rng, width: usize, height: usize) -> (Vec<u8>, Geometry) {
     let stride = match rng.below(6) {
         0..=2 => width,
         3 => width + 1,
         4 => width + rng.below(40),
-        // One row alone accepts every stride.
+        // A picture of one row accepts every stride.
         _ if height == 1 => rng.pick(&[usize::MAX, usize::MAX - 1, 1 << 63, 4097]).max(width),
         _ => width + rng.below(9),
     };
@@ -46,7 +46,7 @@ pub fn good(rng: &mut Rng, width: usize, height: usize) -> (Vec<u8>, Geometry) {
     (u8::noise(len, rng.next()), g)
 }
 
-/// A good picture of another size, at times with as many pixels.
+/// Makes a good picture of another size, at times with as many pixels.
 pub fn another_size(rng: &mut Rng, width: usize, height: usize) -> (Vec<u8>, Geometry) {
     let (w, h) = match rng.below(4) {
         0 => (width + 1, height),
@@ -57,7 +57,7 @@ pub fn another_size(rng: &mut Rng, width: usize, height: usize) -> (Vec<u8>, Geo
     good(rng, w, h)
 }
 
-/// A good layout made wrong, at times in two ways at once.
+/// Makes a good layout wrong, at times in two ways at once.
 pub fn spoil(rng: &mut Rng, data: &mut Vec<u8>, g: &mut Geometry) {
     spoil_once(rng, data, g);
     match rng.below(16) {
@@ -90,7 +90,7 @@ fn spoil_once(rng: &mut Rng, data: &mut Vec<u8>, g: &mut Geometry) {
             g.stride = usize::MAX - rng.below(3);
         }
         12 => {
-            // The product of stride and height wraps to 0: a length worked out in 64 bits would be short.
+            // The product of stride and height wraps to 0, so that a length computed in 64 bits would be short.
             let bits = rng.within(13, 51);
             g.stride = 1 << bits;
             g.height = (1 << (64 - bits)) + 1;
@@ -109,7 +109,7 @@ fn wide(rng: &mut Rng, data: &mut Vec<u8>, g: &mut Geometry, to: Geometry) {
     *data = u8::noise(needed(to) + rng.below(3), rng.next());
 }
 
-/// A picture of one kind or another in the rows; padding and tail stay noise.
+/// Paints a picture of one kind or another into the rows. Padding and tail stay noise.
 pub fn paint(rng: &mut Rng, data: &mut [u8], g: Geometry) {
     let (a, b, c) = (rng.byte(), rng.byte(), rng.byte());
     let (few, kind) = (rng.within(2, 4) as u8, rng.below(10));
@@ -136,20 +136,20 @@ pub fn paint(rng: &mut Rng, data: &mut [u8], g: Geometry) {
     }
 }
 
-/// A painted picture with a good layout.
+/// Makes a painted picture with a good layout.
 pub fn picture(rng: &mut Rng, width: usize, height: usize) -> (Vec<u8>, Geometry) {
     let (mut data, g) = good(rng, width, height);
     paint(rng, &mut data, g);
     (data, g)
 }
 
-/// The largest picture, packed, all of it noise.
+/// Makes the largest picture, packed, all of it noise.
 pub fn largest(seed: u64) -> (Vec<u8>, Geometry) {
     let g = Geometry::packed(MAX_SIDE, MAX_SIDE);
     (u8::noise(g.area(), seed), g)
 }
 
-/// Sides of a picture: mostly small, often around multiples of k, at times a line of up to 4096.
+/// Returns the sides of a picture: mostly small, often around multiples of k, at times a line of up to 4096.
 pub fn sides(rng: &mut Rng, k: usize) -> (usize, usize) {
     match rng.below(64) {
         0 => (1, rng.within(4090, 4096)),
@@ -165,7 +165,7 @@ pub fn sides(rng: &mut Rng, k: usize) -> (usize, usize) {
     }
 }
 
-/// A side at, just below or just above a multiple of k.
+/// Returns a side at, just below or just above a multiple of k.
 fn side(rng: &mut Rng, k: usize) -> usize {
     let k = k.clamp(1, 70);
     let most = (66 / k).max(2);

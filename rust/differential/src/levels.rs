@@ -1,8 +1,8 @@
-//! All pictures of a few levels, in every shape up to a number of pixels.
+//! Makes all pictures of a few levels, in every shape up to a number of pixels.
 
 use crate::run::Checked;
 
-/// Gives each picture, packed, with its width, its height and a seed of its own.
+/// Calls `each` for every picture, packed, with its width, its height and a seed of its own.
 pub fn all(pixels: usize, levels: &[u8], mut each: impl FnMut(Vec<u8>, usize, usize, u64) -> Checked) -> Checked {
     for area in 1..=pixels {
         for width in (1..=area).filter(|width| area % width == 0) {

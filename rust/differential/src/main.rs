@@ -1,5 +1,6 @@
-//! The library and the published Rust on the same inputs: `differential short`, `differential long` or
-//! `differential self-test`. The first difference ends the run with the smallest input found and a status that is not 0.
+//! Compares the library with the published Rust on the same inputs: `differential short`, `differential long` or
+//! `differential self-test`. At the first difference it prints the smallest input found, and exits with a status that
+//! is not 0.
 
 mod case;
 mod corner;
@@ -29,7 +30,7 @@ macro_rules! subjects {
     };
 }
 
-// A subject is run when its line stands here and its module in imgproc.
+// Each line is a module of this folder with its subjects. To compare another, add its line here.
 subjects! {
     image
     morphology
@@ -43,11 +44,11 @@ subjects! {
 const SEED: u64 = 20_261_017;
 const SHORT: Plan = Plan { two_levels: 9, three_levels: 5, large: false };
 const LONG: Plan = Plan { two_levels: 12, three_levels: 6, large: true };
-/// No picture only for its levels: what is left are the boundary cases.
+/// The plan without the exhaustive pictures of a few levels: the boundary cases are left.
 const LEAST: Plan = Plan { two_levels: 0, three_levels: 0, large: false };
 const USAGE: &str = "differential short | long [--seed N] [--minutes M | --scale K] | self-test";
 
-/// How long random rounds go on.
+/// The limit of the random rounds.
 enum Rounds {
     Scale(u64),
     Minutes(u64),
@@ -94,8 +95,8 @@ fn subjects() -> impl Iterator<Item = &'static Subject> {
     SUBJECTS.iter().flat_map(|list| list.iter())
 }
 
-/// Fixed cases, which have to reach every corner, then rounds of random ones; then the tables, and whether each subject
-/// had what it should have.
+/// Runs the fixed cases, which have to reach every corner, then rounds of random ones. Then prints the tables, and
+/// checks that each subject had the cases that it should have.
 fn compared(plan: &Plan, seed: u64, rounds: Rounds) -> Result<(), String> {
     println!("seed {seed}");
     let start = Instant::now();
@@ -136,7 +137,7 @@ fn compared(plan: &Plan, seed: u64, rounds: Rounds) -> Result<(), String> {
     unplanted(&run).map_or(Ok(()), Err)
 }
 
-/// A number that a subject gives and in which the self-test plants no fault.
+/// Returns a number that a subject gives and in which the self-test plants no fault, if there is one.
 fn unplanted(run: &Run) -> Option<String> {
     let planted: Vec<_> = subjects().flat_map(|s| s.faults().map(move |fault| (s.name, fault))).collect();
     let (name, number) =
@@ -144,7 +145,7 @@ fn unplanted(run: &Run) -> Option<String> {
     Some(format!("{name} gives {number}, in which no fault is planted"))
 }
 
-/// A stream of its own for each subject and round, so that adding a subject moves no other one's cases.
+/// Returns a random stream of its own for each subject and round, so that a new subject does not change other cases.
 fn stream(seed: u64, name: &str, round: u64) -> Rng {
     let named = name.bytes().fold(seed, |hash, byte| (hash ^ u64::from(byte)).wrapping_mul(0x100_0000_01b3));
     Rng::new(Rng::new(named ^ round << 40).next())
@@ -165,7 +166,7 @@ fn table(run: &Run) {
     println!("| all | {all_accepted} | {all_refused} | |");
 }
 
-/// Whether a subject had an accepted case at every corner that it declares.
+/// Checks that a subject had an accepted case at every corner that it declares.
 fn at_every_corner(run: &Run, subject: &Subject, plan: &Plan) -> Result<(), String> {
     match run.unreached(subject, plan).first() {
         Some(corner) => Err(format!("{} has no accepted case at the corner {}", subject.name, corner.label())),
@@ -173,7 +174,7 @@ fn at_every_corner(run: &Run, subject: &Subject, plan: &Plan) -> Result<(), Stri
     }
 }
 
-/// The accepted cases of each subject at its corners.
+/// Prints the accepted cases of each subject at its corners.
 fn corners(run: &Run, plan: &Plan) {
     let left_out = if plan.large { "" } else { ", 4096 x 4096 left to the long run" };
     println!("| call | accepted at corners{left_out} |\n|---|---|");
@@ -186,7 +187,7 @@ fn corners(run: &Run, plan: &Plan) {
     }
 }
 
-/// Plants each fault of each subject in our side's answer and sees that it is reported.
+/// Plants each fault of each subject in our side's answer, and checks that it is reported.
 fn self_test() -> Result<(), String> {
     let corners = missed_corners()?;
     let mut seen = 0;
@@ -215,8 +216,8 @@ fn self_test() -> Result<(), String> {
     Ok(())
 }
 
-/// Leaves each corner of each subject out of the count and sees that it alone is missed. The largest picture is asked for
-/// as in the long run.
+/// Leaves each corner of each subject out of the count, and checks that just this corner is reported as missing. It
+/// asks for the largest picture, as the long run does.
 fn missed_corners() -> Result<usize, String> {
     let mut run = Run::default();
     for subject in subjects() {
@@ -238,7 +239,7 @@ fn missed_corners() -> Result<usize, String> {
     undeclared(&run).map_or(Ok(seen), Err)
 }
 
-/// A corner that a subject reaches and does not declare.
+/// Returns a corner that a subject reaches and does not declare, if there is one.
 fn undeclared(run: &Run) -> Option<String> {
     let declared: Vec<_> = subjects().flat_map(|s| s.corners().map(move |corner| (s.name, corner))).collect();
     let (name, corner) = run.corners.keys().find(|at| !declared.contains(at))?;

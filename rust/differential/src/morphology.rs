@@ -1,4 +1,4 @@
-//! Erosion, dilation, opening and closing.
+//! Compares erosion, dilation, opening and closing.
 
 use crate::case::Buffer;
 use crate::corner::{self, Corner};
@@ -106,7 +106,7 @@ impl Operator for Morphology {
     }
 }
 
-/// Small kernels mostly; then kernels around and beyond the sides, up to the largest; at times one to be refused.
+/// Returns a kernel: mostly a small one; else one around or beyond the sides, up to the largest; at times a bad one.
 fn kernel(rng: &mut Rng) -> usize {
     match rng.below(16) {
         0..=5 => rng.pick(&[3, 5, 7]),
@@ -123,7 +123,7 @@ fn kernel(rng: &mut Rng) -> usize {
 fn random(run: &mut Run, rng: &mut Rng, kind: Kind) -> Checked {
     let kernel_size = kernel(rng);
     let (width, height) = sides(rng, kernel_size);
-    // A kernel that is just below, at or just above what reaches over a whole side.
+    // Takes a kernel just below, at or just above the one that reaches over a whole side.
     let kernel_size =
         if rng.one_in(8) { (2 * width.max(height) + 1).saturating_sub(2 * rng.below(3)).max(3) } else { kernel_size };
     run.case(&Through::random(rng, Morphology { kind, kernel_size }, width, height))
@@ -137,7 +137,7 @@ fn fixed(run: &mut Run, plan: &Plan, kind: Kind) -> Checked {
             run.case(&Through::packed(op, src, w, h, seed))
         })?;
     }
-    // Every shape up to just past two blocks on each side, and every short line.
+    // Runs every shape up to just past two blocks on each side, and every short line.
     for kernel_size in [3, 5, 7, 9, 31] {
         let op = Morphology { kind, kernel_size };
         let most = if kernel_size < 9 { 2 * kernel_size + 2 } else { 6 };

@@ -1,4 +1,4 @@
-//! Bit patterns of f64: infinities, NaNs, values below the normal ones and negative ones among them.
+//! Makes bit patterns of f64, with infinities, NaNs, subnormal and negative values among them.
 
 use crate::rng::Rng;
 
@@ -6,7 +6,7 @@ const SIGN: u64 = 1 << 63;
 const EXPONENT: u64 = 0x7ff << 52;
 const FRACTION: u64 = (1 << 52) - 1;
 
-/// Any pattern; the few of a class by themselves come up as often as the many of another.
+/// Returns any pattern. Classes with few patterns come up about as often as those with many.
 pub fn any(rng: &mut Rng) -> f64 {
     let bits = rng.next();
     f64::from_bits(match rng.below(8) {
@@ -23,7 +23,7 @@ pub fn any(rng: &mut Rng) -> f64 {
     })
 }
 
-/// Some of each class, with both signs.
+/// Returns some patterns of each class, with both signs.
 pub fn of_each_class() -> impl Iterator<Item = f64> {
     let zero_and_subnormal = [0, 1, 1 << 51, FRACTION];
     let normal = [f64::MIN_POSITIVE, 0.2, 1.0, 128.0, f64::MAX].map(f64::to_bits);
@@ -32,12 +32,12 @@ pub fn of_each_class() -> impl Iterator<Item = f64> {
     all.flat_map(|bits| [bits, bits | SIGN]).map(f64::from_bits)
 }
 
-/// Every pair of them, as the grid's k and dynamic_range.
+/// Returns every pair of them, as the grid's k and dynamic_range.
 pub fn pairs() -> impl Iterator<Item = (f64, f64)> {
     of_each_class().flat_map(|k| of_each_class().map(move |range| (k, range)))
 }
 
-/// Replaces one of the two or both in every third case.
+/// Replaces one of the two or both, in about every third case.
 pub fn mix(rng: &mut Rng, k: &mut f64, dynamic_range: &mut f64) {
     let (first, second) = (any(rng), any(rng));
     match rng.below(9) {

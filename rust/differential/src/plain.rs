@@ -1,6 +1,6 @@
-//! Comparisons by plain walks over the indices of document 01's three rules, and by its formula.
+//! Counts comparisons by plain walks over the indices of document 01's three rules, and by its formula.
 
-/// Comparisons along one line of n samples, each rule walked index by index.
+/// Returns the comparisons along one line of n samples: walks each rule index by index.
 fn line(n: usize, k: usize) -> u64 {
     let mut count = 0;
     for i in 0..n {
@@ -18,12 +18,12 @@ fn line(n: usize, k: usize) -> u64 {
     count
 }
 
-/// h(3w - 2⌈w/k⌉) + w(3h - 2⌈h/k⌉)
+/// Returns R(k) = h(3w - 2⌈w/k⌉) + w(3h - 2⌈h/k⌉).
 fn formula(w: usize, h: usize, k: usize) -> u64 {
     (h * (3 * w - 2 * w.div_ceil(k)) + w * (3 * h - 2 * h.div_ceil(k))) as u64
 }
 
-/// The comparisons of so many erosions and dilations; an error where walk and formula disagree.
+/// Returns the comparisons of this many erosions and dilations, or an error if walk and formula disagree.
 pub fn comparisons(w: usize, h: usize, k: usize, passes: u64) -> Result<u64, String> {
     let walked = h as u64 * line(w, k) + w as u64 * line(h, k);
     let worked_out = formula(w, h, k);

@@ -1,4 +1,4 @@
-//! The reading, against the chain of the Rust's own calls.
+//! Compares the reading with a chain of the Rust's own calls.
 
 use crate::corner::{ELEMENT, KERNEL, NEIGHBORHOOD, OFFSET, PICTURE, RADIUS, TILE};
 use crate::fault;

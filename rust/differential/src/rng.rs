@@ -1,4 +1,4 @@
-//! A generator of our own, so that a seed gives the same cases everywhere (splitmix64).
+//! A random generator of our own (splitmix64), so that a seed gives the same cases everywhere.
 
 #[derive(Clone)]
 pub struct Rng(u64);
@@ -16,12 +16,12 @@ impl Rng {
         z ^ (z >> 31)
     }
 
-    /// A number below n, which is not 0. The small bias does not matter here.
+    /// Returns a number below n, which is not 0. The small bias does not matter here.
     pub fn below(&mut self, n: usize) -> usize {
         (self.next() % n as u64) as usize
     }
 
-    /// A number from a to b, both included.
+    /// Returns a number from a to b, both included.
     pub fn within(&mut self, a: usize, b: usize) -> usize {
         a + self.below(b - a + 1)
     }
@@ -39,7 +39,8 @@ impl Rng {
     }
 }
 
-/// Bytes or words that buffers are filled with before a call, made from a seed alone so that no copy has to be kept.
+/// The elements of buffers, bytes or u64s. Noise fills a buffer before a call; it is made from a seed alone, so that no
+/// copy has to be kept.
 pub trait Word: Copy + PartialEq + 'static {
     fn noise(len: usize, seed: u64) -> Vec<Self>;
 }

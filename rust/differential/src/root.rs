@@ -1,5 +1,5 @@
-//! The square root of an f64, bit by bit against the processor's. A NaN is compared as a NaN: IEEE 754 leaves its sign
-//! and its payload open.
+//! Compares the square root of an f64 with the processor's, bit by bit. A NaN is compared as a NaN: IEEE 754 leaves its
+//! sign and its payload open.
 
 use crate::case::{Case, Expected, Outcome, Places};
 use crate::fault::Fault::Count;
@@ -11,10 +11,10 @@ use imgproc::root::root;
 #[derive(Clone)]
 struct Root(f64);
 
-/// What stands for every NaN.
+/// The bits that stand for every NaN.
 const NAN: u64 = 0x7ff8_0000_0000_0000;
 
-/// The bits of a root.
+/// Returns the bits of a root.
 fn bits(root: f64) -> u64 {
     if root.is_nan() {
         NAN
@@ -53,7 +53,7 @@ impl Case for Root {
     }
 }
 
-/// Any pattern, then numbers above zero of which the root is more than a rounding.
+/// Returns any bit pattern, or a number above zero of one of several kinds.
 fn operand(rng: &mut Rng) -> f64 {
     match rng.below(7) {
         0 => patterns::any(rng),
@@ -70,7 +70,7 @@ fn operand(rng: &mut Rng) -> f64 {
             let side = (rng.next() >> (38 + rng.below(26))) as f64;
             side * side
         }
-        // What a variance looks like.
+        // A number like a variance.
         _ => (rng.next() >> 40) as f64 / rng.within(1, 70_000) as f64,
     }
 }
@@ -80,7 +80,7 @@ fn random(run: &mut Run, rng: &mut Rng) -> Checked {
 }
 
 fn fixed(run: &mut Run, _: &Plan) -> Checked {
-    // Both zeros, infinities and NaNs of both signs among them: the exponent takes every value, the sign both.
+    // The exponent takes every value and the sign both, so zeros, infinities and NaNs of both signs are among them.
     for sign_and_exponent in 0..4096u64 {
         for fraction in [0, 1, 2, (1 << 51) - 1, 1 << 51, (1 << 51) + 1, (1 << 52) - 2, (1 << 52) - 1] {
             run.case(&Root(f64::from_bits(sign_and_exponent << 52 | fraction)))?;

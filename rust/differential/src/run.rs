@@ -6,12 +6,12 @@ use crate::fault::Fault;
 use crate::rng::Rng;
 use std::collections::{BTreeMap, BTreeSet};
 
-/// A difference, told with the smallest input found.
+/// A difference, reported with the smallest input found.
 pub struct Difference(pub String);
 
 pub type Checked = Result<(), Difference>;
 
-/// Whether default settings are the Rust's, both given as one tuple of the same fields.
+/// Checks that default settings are the Rust's. Both are given as one tuple of the same fields.
 pub fn same_defaults<T: PartialEq>(call: &str, ours: T, rust: T) -> Checked {
     if ours == rust {
         Ok(())
@@ -20,19 +20,19 @@ pub fn same_defaults<T: PartialEq>(call: &str, ours: T, rust: T) -> Checked {
     }
 }
 
-/// How much of the fixed cases is run.
+/// The part of the fixed cases that a run includes.
 #[derive(Clone, Copy)]
 pub struct Plan {
-    /// Pixels of the two-level pictures that are all run.
+    /// All two-level pictures of up to this many pixels are run.
     pub two_levels: usize,
-    /// Pixels of the three-level pictures that are all run.
+    /// All three-level pictures of up to this many pixels are run.
     pub three_levels: usize,
-    /// Whether the largest pictures are run.
+    /// True if the largest pictures are run.
     pub large: bool,
 }
 
 impl Plan {
-    /// Whether a corner has to be reached.
+    /// Tells whether a run has to reach a corner.
     pub fn asks(&self, corner: Corner) -> bool {
         self.large || corner != Corner::LargestPicture
     }
@@ -40,16 +40,16 @@ impl Plan {
 
 pub struct Subject {
     pub name: &'static str,
-    /// The numbers that it can refuse with; each has to come up.
+    /// The numbers of its refusals; each has to occur.
     pub refuses: &'static [u32],
-    /// The corners of each setting that its call has; a fixed case has to be accepted at every one.
+    /// The corners of each setting that its call has. At every one a fixed case has to be accepted.
     pub corners: &'static [&'static [Corner]],
     /// Faults that its comparison has to report: of its buffers and refusals, then of each number that it gives.
     pub faults: &'static [&'static [Fault]],
-    /// Cases of one round of random ones.
+    /// The number of cases in a round of random ones.
     pub round: u64,
     pub random: fn(&mut Run, &mut Rng) -> Checked,
-    /// Exhaustive and boundary cases.
+    /// Runs the exhaustive and boundary cases.
     pub fixed: fn(&mut Run, &Plan) -> Checked,
 }
 
@@ -67,15 +67,15 @@ pub fn no_fixed(_: &mut Run, _: &Plan) -> Checked {
     Ok(())
 }
 
-/// Cases by their number; 0 is accepted.
+/// The number of cases by the number of their refusal; 0 is accepted.
 pub type Count = BTreeMap<u32, u64>;
 
 #[derive(Default)]
 pub struct Run {
     pub counts: BTreeMap<&'static str, Count>,
-    /// Accepted cases by subject and corner.
+    /// The number of accepted cases by subject and corner.
     pub corners: BTreeMap<(&'static str, Corner), u64>,
-    /// The numbers that calls gave, by subject.
+    /// The names of the numbers that calls gave, by subject.
     pub numbers: BTreeSet<(&'static str, &'static str)>,
     /// The fault to plant at the first case that it fits.
     pub fault: Option<Fault>,
@@ -107,12 +107,12 @@ impl Run {
         }
     }
 
-    /// The accepted cases of a subject at a corner.
+    /// Returns the number of accepted cases of a subject at a corner.
     pub fn at(&self, subject: &Subject, corner: Corner) -> u64 {
         self.corners.get(&(subject.name, corner)).copied().unwrap_or(0)
     }
 
-    /// The corners that a subject has to reach and has not.
+    /// Returns the corners that a subject has to reach and has not reached.
     pub fn unreached(&self, subject: &Subject, plan: &Plan) -> Vec<Corner> {
         subject.corners().filter(|&corner| plan.asks(corner) && self.at(subject, corner) == 0).collect()
     }

@@ -1,4 +1,4 @@
-//! The Rust's refusal kinds as document 01's numbers, and its views.
+//! Turns the Rust's kinds of refusals into document 01's numbers, and makes its views.
 
 use crate::document;
 use imgproc::Geometry;
@@ -23,7 +23,7 @@ pub fn imgproc(error: ImgProcError) -> u32 {
     }
 }
 
-/// The Rust's view, else its refusal's number; then the side limit that document 01 adds.
+/// Returns the Rust's view, or else the number of its refusal. Adds the side limit of document 01 after the Rust's own.
 pub fn view(data: &[u8], g: Geometry) -> Result<Gray8View<'_>, u32> {
     let view = Gray8View::new(data, g.width, g.height, g.stride).map_err(luma)?;
     limited(g, view)

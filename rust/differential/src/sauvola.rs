@@ -1,4 +1,4 @@
-//! Sauvola's threshold.
+//! Compares Sauvola's threshold.
 
 use crate::case::Buffer;
 use crate::corner::{self, Corner, LARGEST_RADIUS};
@@ -42,7 +42,7 @@ impl Operator for Sauvola {
 
     fn rust(&self, src: Gray8View<'_>, dst: Gray8ViewMut<'_>) -> ImgProcResult<()> {
         let config = theirs::SauvolaConfig {
-            // Beyond, document 01's clipped window is the whole picture, as it is there.
+            // At this radius document 01's clipped window is the whole picture already.
             radius: self.0.radius.min(LARGEST_RADIUS),
             k_milli: self.0.k_milli,
             dynamic_range: self.0.dynamic_range,
@@ -143,7 +143,7 @@ fn fixed(run: &mut Run, plan: &Plan) -> Checked {
             })?;
         }
     }
-    // One pixel of each value, and each pair with the darkest and the lightest beside it.
+    // Runs one pixel of each value, and each value beside the darkest and the lightest.
     for value in 0..=255 {
         for k_milli in [0, 1, 200, 999, 1000] {
             let op = Sauvola(SauvolaConfig { k_milli, ..usual });
@@ -161,7 +161,7 @@ fn fixed(run: &mut Run, plan: &Plan) -> Checked {
             let op = Sauvola(SauvolaConfig { radius, ..usual });
             let src = u8::noise(width * height, radius as u64);
             run.case(&Through::packed(op, src, width, height, 3))?;
-            // The sums are largest where all is white.
+            // An all-white picture has the largest sums.
             run.case(&Through::packed(op, vec![255; width * height], width, height, 3))?;
             run.case(&Through::packed(op, vec![0; width * height], width, height, 3))?;
         }

@@ -1,4 +1,4 @@
-//! The one driver of every call that takes a picture, a destination, settings and a workspace.
+//! Drives every call that takes a picture, a destination, settings and a workspace.
 
 use crate::case::{listed, Buffer, Case, Expected, Left, Outcome, Places};
 use crate::corner::{self, Corner};
@@ -18,10 +18,10 @@ mod shrink;
 /// A call with its settings.
 pub trait Operator: Clone + Debug {
     type Word: Word;
-    /// Whether it gives the number of comparisons.
+    /// True if the call gives the number of comparisons.
     const COUNTS: bool;
     fn name(&self) -> &'static str;
-    /// The words of workspace that document 01 asks for.
+    /// Returns the length of the workspace that document 01 asks for.
     fn room(&self, width: usize, height: usize) -> usize;
     fn flat(
         &self, src: &[u8], s: Geometry, dst: &mut [u8], d: Geometry, workspace: &mut [Self::Word],
@@ -31,9 +31,9 @@ pub trait Operator: Clone + Debug {
         &self, src: &[u8], s: Geometry, dst: &mut [u8], d: Geometry, workspace: &mut [Self::Word],
     ) -> Result<u64, Refusal>;
     fn rust(&self, src: Gray8View<'_>, dst: Gray8ViewMut<'_>) -> ImgProcResult<()>;
-    /// The comparisons of an accepted call; 0 where it gives none.
+    /// Returns the comparisons of an accepted call; 0 if it gives none.
     fn comparisons(&self, width: usize, height: usize) -> Result<u64, String>;
-    /// The corners that its settings stand at over a picture of these sides.
+    /// Returns the corners at which its settings stand over a picture of these sides.
     fn corners(&self, width: usize, height: usize) -> Vec<Corner>;
     fn simpler(&self) -> Vec<Self>;
     fn buffer(workspace: Guarded<Self::Word>) -> Buffer;
@@ -48,19 +48,19 @@ pub struct Through<O> {
     pub d: Geometry,
     /// The workspace's length.
     pub room: usize,
-    /// Of the noise in the workspace and in the number to be written.
+    /// The seed of the noise in the workspace and in the number to be written.
     pub seed: u64,
 }
 
 impl<O: Operator> Through<O> {
-    /// Packed, with exact lengths.
+    /// Makes a case of packed pictures with exact lengths.
     pub fn packed(op: O, src: Vec<u8>, width: usize, height: usize, seed: u64) -> Self {
         let s = Geometry::packed(width, height);
         let dst = u8::noise(src.len(), !seed);
         Self { room: op.room(width, height), op, src, s, dst, d: s, seed }
     }
 
-    /// Any layouts; about one in four is to be refused for something else than its settings.
+    /// Makes a case with any layouts. In three of ten cases it spoils a layout, the sizes or the workspace.
     pub fn random(rng: &mut Rng, op: O, width: usize, height: usize) -> Self {
         let (mut src, mut s) = picture(rng, width, height);
         let (mut dst, mut d) = good(rng, width, height);
@@ -85,7 +85,7 @@ impl<O: Operator> Through<O> {
         self.seed.rotate_left(17)
     }
 
-    /// The expected number; where it is 0, the destination as the Rust leaves it.
+    /// Returns the expected number, or else the destination as the Rust leaves it.
     fn decided(&self) -> Result<Vec<u8>, u32> {
         let src = rust::view(&self.src, self.s)?;
         let mut swept = self.dst.clone();
@@ -97,7 +97,7 @@ impl<O: Operator> Through<O> {
         Ok(swept)
     }
 
-    /// Of the Rust's destination the rows only; every other byte is to be as it was lent.
+    /// Returns the expected destination: the rows as the Rust leaves them, and every other byte as it was.
     fn painted(&self, swept: &[u8]) -> Vec<u8> {
         let mut painted = self.dst.clone();
         for y in 0..self.d.height {

@@ -1,4 +1,4 @@
-//! The archive's exports, with the names and the order of include/imgproc.h, and the one place that lends them memory.
+//! Declares the archive's exports, in the order of include/imgproc.h, and holds the one place that lends them memory.
 
 extern "C" {
     fn imgproc_abi_1() -> u32;
@@ -88,8 +88,9 @@ pub fn refer_to_abi() {
     std::hint::black_box(imgproc_abi_1 as unsafe extern "C" fn() -> u32);
 }
 
-/// Calls an export. `[data]` lends a slice as its pointer and length, `[mut data]` one to write to, `<g>` stands for a
-/// geometry's width, height and stride, `<g tiles>` for a grid's six numbers; a number or a reference goes as it is.
+/// Calls an export. `[data]` lends a slice as its pointer and length, and `[mut data]` one to write to. `<g>` stands
+/// for a geometry's width, height and stride, `<g tiles>` for a grid's six numbers. A number or a reference goes as it
+/// is.
 macro_rules! call {
     ($export:ident($($lent:tt)*)) => { $crate::ffi::call!(@ $export () $($lent)*) };
     (@ $export:ident ($($done:expr,)*)) => {{

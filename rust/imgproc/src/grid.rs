@@ -1,9 +1,9 @@
-//! Tile thresholds and skips, and queries to them.
+//! The tile grid: builds thresholds and skips of tiles, and answers queries to them.
 
 use crate::refusal::opened;
 use crate::{Geometry, Refusal, SettingError};
 
-/// How a tile's threshold is found.
+/// The method that computes a tile's threshold.
 #[derive(Clone, Copy, Debug, PartialEq)]
 pub enum TileThresholdMethod {
     /// Halfway between the neighbourhood's minimum and maximum.
@@ -18,7 +18,7 @@ pub enum TileThresholdMethod {
 }
 
 impl TileThresholdMethod {
-    /// The method's number, k and range as the exports take them.
+    /// Returns the method's number, k and range as the exports take them.
     pub(crate) const fn numbers(self) -> (u32, f64, f64) {
         match self {
             Self::Midrange => (0, 0.0, 1.0),
@@ -30,17 +30,17 @@ impl TileThresholdMethod {
 /// Settings of [`tile_grid_build`].
 #[derive(Clone, Copy, Debug, PartialEq)]
 pub struct TileThresholdConfig {
-    /// Not 0.
+    /// The width of a tile; not 0.
     pub tile_width: usize,
-    /// Not 0.
+    /// The height of a tile; not 0.
     pub tile_height: usize,
-    /// Tiles this far away on each axis take part.
+    /// The tiles up to this far away on each axis are a tile's neighbourhood.
     pub neighborhood_radius: usize,
     /// Added to each threshold before it is clipped to a byte.
     pub threshold_offset: i16,
-    /// A neighbourhood with less contrast than this is skipped.
+    /// A tile is skipped if its neighbourhood has less contrast than this.
     pub contrast_floor: u8,
-    /// How a tile's threshold is found.
+    /// The method that computes a tile's threshold.
     pub method: TileThresholdMethod,
 }
 
@@ -62,7 +62,7 @@ impl TileThresholdConfig {
     ///
     /// # Errors
     ///
-    /// The tile's width, then its height, then the method's k, then its range.
+    /// Checks the tile's width, then its height, then the method's k, then its range.
     pub fn check(&self) -> Result<(), SettingError> {
         if self.tile_width == 0 {
             return Err(SettingError::TileWidth);
@@ -93,13 +93,13 @@ pub struct Grid {
     pub tile_width: usize,
     /// The height of a tile; the last of a column may be lower.
     pub tile_height: usize,
-    /// The tiles of a row: width / tile_width, rounded up.
+    /// The number of tiles in a row: width / tile_width, rounded up.
     pub tiles_x: usize,
-    /// The rows of tiles: height / tile_height, rounded up.
+    /// The number of tile rows: height / tile_height, rounded up.
     pub tiles_y: usize,
 }
 
-/// The calls as C sees them, with slices for pointers; the number comes back, 0 for accepted.
+/// The calls as C sees them, with slices for pointers. Each returns the number of the refusal, or 0 if accepted.
 #[doc(hidden)]
 #[allow(missing_docs)]
 pub mod flat {
@@ -107,7 +107,7 @@ pub mod flat {
     use crate::ffi::call;
     use crate::Geometry;
 
-    /// `method` is 0 for Midrange and 1 for Sauvola; any other is refused. The method in `config` is not looked at.
+    /// `method` is 0 for Midrange and 1 for Sauvola; any other is refused. The method in `config` does not matter.
     #[allow(clippy::too_many_arguments)]
     pub fn tile_grid_build(
         src: &[u8], g: Geometry, config: &TileThresholdConfig, method: u32, k: f64, dynamic_range: f64,
@@ -133,13 +133,13 @@ pub mod flat {
     }
 }
 
-/// Fills the first bytes of `thresholds` and `skips`, one a tile, and gives the grid's sizes.
-/// Each of them needs [`tiles`] bytes, the workspace [`workspace_len`] numbers.
+/// Fills the first bytes of `thresholds` and `skips`, one a tile, and returns the grid's sizes.
+/// Each of the two needs [`tiles`] bytes, the workspace [`workspace_len`] u64s.
 ///
 /// # Errors
 ///
-/// Layout, 7 where [`TileThresholdConfig::check`] finds a fault, 8 where the workspace is too short, 10 where
-/// `thresholds` or `skips` is.
+/// Layout, 7 if [`TileThresholdConfig::check`] finds a fault, 8 if the workspace is too short, 10 if `thresholds` or
+/// `skips` is.
 pub fn tile_grid_build(
     src: &[u8], geometry: Geometry, config: &TileThresholdConfig, workspace: &mut [u64], thresholds: &mut [u8],
     skips: &mut [u8],
@@ -163,7 +163,7 @@ pub fn tile_grid_build(
     Ok(Grid { width: geometry.width, height: geometry.height, tile_width, tile_height, tiles_x, tiles_y })
 }
 
-/// The tiles of a picture; 0 where a tile side is 0.
+/// Returns the number of tiles of a picture; 0 if a tile side is 0.
 pub const fn tiles(width: usize, height: usize, tile_width: usize, tile_height: usize) -> usize {
     if tile_width == 0 || tile_height == 0 {
         return 0;
@@ -171,24 +171,24 @@ pub const fn tiles(width: usize, height: usize, tile_width: usize, tile_height: 
     width.div_ceil(tile_width).saturating_mul(height.div_ceil(tile_height))
 }
 
-/// The u64s of workspace that a grid needs: five a tile.
+/// Returns the length of the u64 workspace that a grid needs: five u64s a tile.
 pub const fn workspace_len(width: usize, height: usize, config: &TileThresholdConfig) -> usize {
     tiles(width, height, config.tile_width, config.tile_height).saturating_mul(5)
 }
 
-/// The threshold of the tile that holds pixel (x, y).
+/// Returns the threshold of the tile that holds pixel (x, y).
 ///
 /// # Errors
 ///
-/// 7 where a side is not in 1..=[`MAX_SIDE`](crate::MAX_SIDE), a tile side is 0 or a tile count is not the side over
-/// the tile side, rounded up; 10 where `thresholds` is shorter than the grid has tiles; 9 outside the picture.
+/// 7 if a side is not in 1..=[`MAX_SIDE`](crate::MAX_SIDE), a tile side is 0 or a tile count is not the side divided by
+/// the tile side, rounded up; 10 if `thresholds` is shorter than the number of tiles; 9 outside the picture.
 pub fn threshold_at(grid: Grid, thresholds: &[u8], x: usize, y: usize) -> Result<u8, Refusal> {
     let mut value = 0;
     opened(flat::threshold_at(grid, thresholds, x, y, &mut value))?;
     Ok(value)
 }
 
-/// Whether the tile that holds pixel (x, y) is skipped: its byte is not 0.
+/// Tells whether the tile that holds pixel (x, y) is skipped: its byte is not 0.
 ///
 /// # Errors
 ///
@@ -199,7 +199,7 @@ pub fn is_skip(grid: Grid, skips: &[u8], x: usize, y: usize) -> Result<bool, Ref
     Ok(value != 0)
 }
 
-/// Whether every tile in the tile row that holds row y is skipped.
+/// Tells whether every tile in the tile row that holds row y is skipped.
 ///
 /// # Errors
 ///

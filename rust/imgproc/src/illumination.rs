@@ -6,10 +6,10 @@ use crate::{Geometry, Refusal, SettingError};
 /// Settings of [`background_divide_into`].
 #[derive(Clone, Copy, Debug, PartialEq, Eq)]
 pub struct BackgroundDivideConfig {
-    /// Kernel of the closing that gives the background; odd and at least 3. What is darker than its surroundings and
-    /// narrower than this is divided by those surroundings; what is wider is taken for background itself.
+    /// Kernel of the closing that gives the background; odd and at least 3. A dark object narrower than this is divided
+    /// by its surroundings; a wider one is taken for background itself.
     pub structuring_element: usize,
-    /// What a pixel as bright as its background becomes.
+    /// A pixel as bright as its background becomes this.
     pub target_luma: u8,
     /// The background is raised to this where it is below; not 0.
     pub denominator_floor: u8,
@@ -26,7 +26,7 @@ impl BackgroundDivideConfig {
     ///
     /// # Errors
     ///
-    /// The element, then the floor.
+    /// Checks the element, then the floor.
     pub const fn check(&self) -> Result<(), SettingError> {
         if self.structuring_element < 3 || self.structuring_element % 2 == 0 {
             return Err(SettingError::StructuringElement);
@@ -38,7 +38,7 @@ impl BackgroundDivideConfig {
     }
 }
 
-/// The call as C sees it, with slices for pointers; the number comes back, 0 for accepted.
+/// The call as C sees it, with slices for pointers. It returns the number of the refusal, or 0 if accepted.
 #[doc(hidden)]
 #[allow(missing_docs)]
 pub mod flat {
@@ -58,13 +58,13 @@ pub mod flat {
     }
 }
 
-/// Divides each pixel by its background, and gives the number of comparisons of samples.
+/// Divides each pixel by its background, and returns the number of comparisons of samples.
 /// The workspace needs [`workspace_len`] bytes.
 ///
 /// # Errors
 ///
-/// Layout of the source, layout of the destination, 5 where they differ in width or height, 7 where
-/// [`BackgroundDivideConfig::check`] finds a fault, 8 where the workspace is too short.
+/// Layout of the source, layout of the destination, 5 if they differ in width or height, 7 if
+/// [`BackgroundDivideConfig::check`] finds a fault, 8 if the workspace is too short.
 pub fn background_divide_into(
     src: &[u8], src_geometry: Geometry, dst: &mut [u8], dst_geometry: Geometry, config: &BackgroundDivideConfig,
     workspace: &mut [u8],
@@ -74,7 +74,7 @@ pub fn background_divide_into(
     Ok(comparisons)
 }
 
-/// The bytes of workspace that a picture needs.
+/// Returns the length of the byte workspace that a picture needs.
 pub const fn workspace_len(width: usize, height: usize) -> usize {
     Geometry::packed(width, height).area().saturating_mul(7)
 }

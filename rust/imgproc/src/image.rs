@@ -1,9 +1,9 @@
-//! Layout, pixels and rows, and rows to and from a packed plane.
+//! Checks layouts, reads and writes pixels and rows, and copies rows to and from a packed plane.
 
 use crate::refusal::opened;
 use crate::{Geometry, Refusal};
 
-/// The calls as C sees them, with slices for pointers; the number comes back, 0 for accepted.
+/// The calls as C sees them, with slices for pointers. Each returns the number of the refusal, or 0 if accepted.
 #[doc(hidden)]
 #[allow(missing_docs)]
 pub mod flat {
@@ -39,7 +39,7 @@ pub mod flat {
     }
 }
 
-/// Whether a slice of `len` bytes holds the picture.
+/// Checks that a slice of `len` bytes holds the picture.
 ///
 /// # Errors
 ///
@@ -48,7 +48,7 @@ pub fn validate_layout(len: usize, geometry: Geometry) -> Result<(), Refusal> {
     opened(flat::validate_layout(len, geometry))
 }
 
-/// Pixel (x, y).
+/// Returns pixel (x, y).
 ///
 /// # Errors
 ///
@@ -68,7 +68,7 @@ pub fn set(data: &mut [u8], geometry: Geometry, x: usize, y: usize, value: u8) -
     opened(flat::set(data, geometry, x, y, value))
 }
 
-/// Row y as the caller's own bytes.
+/// Returns row y as the caller's own bytes.
 ///
 /// # Errors
 ///
@@ -78,7 +78,7 @@ pub fn row(data: &[u8], geometry: Geometry, y: usize) -> Result<&[u8], Refusal> 
     Ok(&data[y * geometry.stride..][..geometry.width])
 }
 
-/// Row y as the caller's own bytes, to write to.
+/// Returns row y as the caller's own bytes, to write to.
 ///
 /// # Errors
 ///
@@ -92,7 +92,7 @@ pub fn row_mut(data: &mut [u8], geometry: Geometry, y: usize) -> Result<&mut [u8
 ///
 /// # Errors
 ///
-/// Layout, then 9 outside the picture, then 8 where `out` is shorter than the width.
+/// Layout, then 9 outside the picture, then 8 if `out` is shorter than the width.
 pub fn copy_row(data: &[u8], geometry: Geometry, y: usize, out: &mut [u8]) -> Result<(), Refusal> {
     opened(flat::row(data, geometry, y, out))
 }
@@ -101,7 +101,7 @@ pub fn copy_row(data: &[u8], geometry: Geometry, y: usize, out: &mut [u8]) -> Re
 ///
 /// # Errors
 ///
-/// Layout, then 8 where the plane does not lie in the workspace.
+/// Layout, then 8 if the plane does not lie in the workspace.
 pub fn pack(src: &[u8], geometry: Geometry, workspace: &mut [u8], at: usize) -> Result<(), Refusal> {
     opened(flat::pack(src, geometry, workspace, at))
 }
@@ -110,7 +110,7 @@ pub fn pack(src: &[u8], geometry: Geometry, workspace: &mut [u8], at: usize) -> 
 ///
 /// # Errors
 ///
-/// Layout of the destination, then 8 where the plane does not lie in the workspace.
+/// Layout of the destination, then 8 if the plane does not lie in the workspace.
 pub fn unpack(workspace: &[u8], at: usize, dst: &mut [u8], geometry: Geometry) -> Result<(), Refusal> {
     opened(flat::unpack(workspace, at, dst, geometry))
 }

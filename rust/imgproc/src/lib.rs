@@ -1,8 +1,8 @@
 //! Safe Rust calls over the proved image-processing library.
 //!
 //! A picture is a slice of bytes and a [`Geometry`]: pixel (x, y) is the byte at y * stride + x. Every call takes
-//! slices and gives a `Result`; a refused call leaves every slice as it was. Workspaces are lent: each module has a
-//! function that tells the length that is needed, and [`reading::ReadingWorkspace`] owns those of a reading.
+//! slices and returns a `Result`; a refused call leaves every slice as it was. The caller lends the workspaces: each
+//! module has a function that returns the needed length, and [`reading::ReadingWorkspace`] owns those of a reading.
 //!
 //! ```
 //! use imgproc::{image, Geometry, LumaError, Refusal};
@@ -17,11 +17,11 @@
 //! # Ok::<(), Refusal>(())
 //! ```
 //!
-//! An `# Errors` section has the numbers of [`Refusal`] in the order in which they are tried: the first that fits is
-//! answered. "Layout" there means 1, 2, 3 and 4 of [`LumaError`], for one picture entire before the next.
+//! An `# Errors` section lists the numbers of [`Refusal`] in the order in which the call tries them; the first that
+//! fits is returned. "Layout" there means 1, 2, 3 and 4 of [`LumaError`], for one picture entirely before the next.
 //!
-//! The C interface wants valid pointers, true lengths and no overlap between what is written and anything else. Rust's
-//! `&` and `&mut` see to all three, so no call here is unsafe.
+//! The C interface needs valid pointers, true lengths and no overlap between what is written and anything else. Rust's
+//! `&` and `&mut` ensure all three, so no call here is unsafe.
 
 #![deny(missing_docs, missing_debug_implementations, unsafe_op_in_unsafe_fn)]
 #![deny(clippy::undocumented_unsafe_blocks, clippy::missing_errors_doc)]
@@ -47,7 +47,7 @@ pub const MAX_SIDE: usize = 4096;
 /// The sides of a picture and the distance from one row's first byte to the next one's.
 #[derive(Clone, Copy, Debug, PartialEq, Eq, Hash)]
 pub struct Geometry {
-    /// The pixels of a row.
+    /// The number of pixels in a row.
     pub width: usize,
     /// The number of rows.
     pub height: usize,
@@ -56,12 +56,12 @@ pub struct Geometry {
 }
 
 impl Geometry {
-    /// Rows that follow each other without padding.
+    /// Returns the geometry of rows that follow each other without padding.
     pub const fn packed(width: usize, height: usize) -> Self {
         Self { width, height, stride: width }
     }
 
-    /// The number of pixels; the largest usize where it does not fit.
+    /// Returns the number of pixels, or the largest usize if it does not fit.
     pub const fn area(&self) -> usize {
         self.width.saturating_mul(self.height)
     }

@@ -5,7 +5,7 @@ use crate::{Geometry, Refusal};
 
 macro_rules! sweeps {
     ($($call:ident $export:ident $what:literal)*) => {
-        /// The calls as C sees them, with slices for pointers; the number comes back, 0 for accepted.
+        /// The calls as C sees them, with slices for pointers. Each returns the number of its refusal, 0 if accepted.
         #[doc(hidden)]
         #[allow(missing_docs)]
         pub mod flat {
@@ -22,12 +22,12 @@ macro_rules! sweeps {
 
         $(#[doc = $what]
         ///
-        /// Gives the number of comparisons of samples. The workspace needs [`workspace_len`] bytes.
+        /// Returns the number of comparisons of samples. The workspace needs [`workspace_len`] bytes.
         ///
         /// # Errors
         ///
-        /// Layout of the source, layout of the destination, 5 where they differ in width or height, 6 where the kernel
-        /// is even or below 3, 8 where the workspace is too short.
+        /// Layout of the source, layout of the destination, 5 if they differ in width or height, 6 if the kernel is
+        /// even or below 3, 8 if the workspace is too short.
         pub fn $call(
             src: &[u8], src_geometry: Geometry, dst: &mut [u8], dst_geometry: Geometry,
             kernel_size: usize, workspace: &mut [u8],
@@ -46,7 +46,7 @@ sweeps! {
     grayscale_close_into imgproc_grayscale_close_into "Dilation, then erosion."
 }
 
-/// The bytes of workspace that a picture needs.
+/// Returns the length of the byte workspace that a picture needs.
 pub const fn workspace_len(width: usize, height: usize) -> usize {
     Geometry::packed(width, height).area().saturating_mul(6)
 }

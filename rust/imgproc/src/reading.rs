@@ -1,4 +1,4 @@
-//! The reading: a picture flattened and opened, its low-contrast tiles skipped, every other pixel judged.
+//! The reading: flattens and opens a picture, skips its low-contrast tiles, and judges every other pixel.
 
 use crate::grid::{self, tiles, TileThresholdConfig};
 use crate::illumination::BackgroundDivideConfig;
@@ -10,13 +10,13 @@ use std::fmt;
 /// Settings of [`reading`].
 #[derive(Clone, Copy, Debug, PartialEq)]
 pub struct ReadingConfig {
-    /// Of the division by the background.
+    /// Settings of the division by the background.
     pub division: BackgroundDivideConfig,
     /// Kernel of the opening; odd and at least 3.
     pub opening_kernel: usize,
-    /// Of the grid only the skips count.
+    /// Settings of the grid, of which a reading uses only the skips.
     pub grid: TileThresholdConfig,
-    /// Of the threshold, and the bytes that are written.
+    /// Settings of the threshold, and the bytes that are written.
     pub sauvola: SauvolaConfig,
 }
 
@@ -34,22 +34,22 @@ impl Default for ReadingConfig {
 }
 
 impl ReadingConfig {
-    /// Settings for a column that is so many pixels wide, between its walls. A number up to a quarter too large does as
-    /// well; one that is too small does not.
+    /// Returns settings for a column that is this many pixels wide between its walls. A number up to a quarter too
+    /// large works as well; one that is too small does not.
     ///
-    /// They were measured on made pictures of columns 8 to 320 pixels wide and up to a third of the picture, with at
-    /// least 250 pixels of liquid. At least 99 % of the liquid was found, and what else was judged dark was at most 1 %
-    /// of it, where
+    /// The settings were measured on pictures made by a program, of columns 8 to 320 pixels wide and up to a third of
+    /// the picture, with at least 250 pixels of liquid. At least 99 % of the liquid was found, and the other pixels
+    /// judged dark were at most 1 % as many as the liquid has, if
     ///
     /// - the liquid is 0.4 to 0.85 times as bright as the empty column, which is 0.93 to 0.95 times as bright as the
-    ///   light beside it,
+    ///   light beside it;
     /// - that light is 160 or more in the middle of the picture, with noise of a standard deviation of at most a
-    ///   hundredth of it,
-    /// - and loses no more to the corners than 0.1 in a picture three to five columns wide, 0.12 from six on, 0.15 from
-    ///   eight and 0.2 from twelve.
+    ///   hundredth of it;
+    /// - the light loses no more to the corners than 0.1 in a picture three to five columns wide, 0.12 from six on,
+    ///   0.15 from eight and 0.2 from twelve.
     ///
-    /// Beyond that dark corners are taken for liquid, and weak liquid is lost. docs/SETTINGS.md has the tables. Nothing
-    /// of this is proved.
+    /// Outside this range dark corners may be taken for liquid, and weak liquid may be lost. docs/SETTINGS.md has the
+    /// tables. Nothing of this is proved.
     ///
     /// ```
     /// use imgproc::reading::ReadingConfig;
@@ -61,7 +61,7 @@ impl ReadingConfig {
     /// assert_eq!((config.sauvola.k_milli, config.sauvola.dynamic_range), (130, 48));
     /// ```
     pub fn for_column(pixels: usize) -> Self {
-        // No picture has a wider one, and nothing below wraps.
+        // No picture has a wider column, and nothing below wraps.
         let column = pixels.clamp(1, crate::MAX_SIDE);
         let mut config = Self::default();
         config.division.structuring_element = 2 * column + 1;
@@ -72,11 +72,11 @@ impl ReadingConfig {
         config
     }
 
-    /// Names the first setting that is out of range, in the order in which a reading is refused for it.
+    /// Names the first setting that is out of range, in the order in which a reading checks them.
     ///
     /// # Errors
     ///
-    /// The settings of the division, the opening's kernel, the settings of the grid, those of the threshold.
+    /// Checks the division's settings, the opening's kernel, the grid's settings, then the threshold's.
     ///
     /// ```
     /// use imgproc::reading::ReadingConfig;
@@ -99,20 +99,20 @@ impl ReadingConfig {
     }
 }
 
-/// What a reading counts. Dark, light and skipped add up to the number of pixels.
+/// The counts of a reading. Dark, light and skipped add up to the number of pixels.
 #[derive(Clone, Copy, Debug, Default, PartialEq, Eq)]
 pub struct ReadingCounts {
-    /// The pixels judged dark.
+    /// The number of pixels judged dark.
     pub dark: u64,
-    /// The pixels judged light.
+    /// The number of pixels judged light.
     pub light: u64,
-    /// The pixels of tiles without contrast, which are not judged.
+    /// The number of pixels in tiles without contrast, which are not judged.
     pub skipped: u64,
-    /// Comparisons of samples in the closing and the opening.
+    /// The number of comparisons of samples in the closing and the opening.
     pub comparisons: u64,
 }
 
-/// The call as C sees it, with slices for pointers; the number comes back, 0 for accepted.
+/// The call as C sees it, with slices for pointers. It returns the number of the refusal, or 0 if accepted.
 #[doc(hidden)]
 #[allow(missing_docs)]
 pub mod flat {
@@ -120,7 +120,7 @@ pub mod flat {
     use crate::ffi::call;
     use crate::Geometry;
 
-    /// `method` is 0 for Midrange and 1 for Sauvola; any other is refused. The method in `config` is not looked at.
+    /// `method` is 0 for Midrange and 1 for Sauvola; any other is refused. The method in `config` does not matter.
     #[allow(clippy::too_many_arguments)]
     pub fn reading(
         src: &[u8], s: Geometry, dst: &mut [u8], d: Geometry, config: &ReadingConfig, method: u32, k: f64,
@@ -141,7 +141,7 @@ pub mod flat {
 }
 
 /// Judges every pixel and writes the rows of `dst`: `dark_value` for a dark one, `light_value` for a light or skipped
-/// one. The workspaces need [`bytes_len`] bytes and [`words_len`] numbers; [`ReadingWorkspace`] owns them.
+/// one. The workspaces need [`bytes_len`] bytes and [`words_len`] u64s; a [`ReadingWorkspace`] owns such workspaces.
 ///
 /// ```
 /// use imgproc::reading::{bytes_len, reading, words_len, ReadingConfig};
@@ -165,9 +165,9 @@ pub mod flat {
 ///
 /// # Errors
 ///
-/// Layout of the source, layout of the destination, 5 where they differ in width or height, then what
+/// Layout of the source, layout of the destination, 5 if they differ in width or height, then what
 /// [`ReadingConfig::check`] finds first (7 for the division, 6 for the opening's kernel, 7 for the grid, 7 for the
-/// threshold), then 8 where a workspace is too short.
+/// threshold), then 8 if a workspace is too short.
 pub fn reading(
     src: &[u8], src_geometry: Geometry, dst: &mut [u8], dst_geometry: Geometry, config: &ReadingConfig,
     bytes: &mut [u8], words: &mut [u64],
@@ -216,12 +216,12 @@ pub struct ReadingWorkspace {
 }
 
 impl ReadingWorkspace {
-    /// Checks the geometry and the settings, then allocates: for a picture without padding about 25 bytes a pixel with
-    /// the default tiles. At the largest sides that is some 420 MB.
+    /// Checks the geometry and the settings, then allocates the workspaces. With the default tiles they take about 25
+    /// bytes a pixel, some 420 MB at the largest sides.
     ///
     /// # Errors
     ///
-    /// The layout's 1 and 2, 3 where no slice can be that long, and 4; then what [`ReadingConfig::check`] finds first.
+    /// 1 and 2 as for a layout, 3 if no slice can be that long, 4; then what [`ReadingConfig::check`] finds first.
     pub fn new(geometry: Geometry, config: &ReadingConfig) -> Result<Self, Refusal> {
         image::validate_layout(usize::MAX, geometry)?;
         config.check()?;
@@ -231,7 +231,7 @@ impl ReadingWorkspace {
         Ok(Self { config: *config, bytes, words })
     }
 
-    /// The settings.
+    /// Returns the settings.
     pub const fn config(&self) -> &ReadingConfig {
         &self.config
     }
@@ -241,7 +241,8 @@ impl ReadingWorkspace {
     ///
     /// # Errors
     ///
-    /// As [`reading`]; the settings are known to be good, and 8 means a picture larger than the workspace is made for.
+    /// As [`reading`]. The settings are known to be good, and 8 means that the picture is larger than the workspace is
+    /// made for.
     pub fn reading(
         &mut self, src: &[u8], src_geometry: Geometry, dst: &mut [u8], dst_geometry: Geometry,
     ) -> Result<ReadingCounts, Refusal> {
@@ -249,7 +250,7 @@ impl ReadingWorkspace {
     }
 }
 
-/// The lengths stand for the workspaces.
+/// Shows the lengths of the workspaces in place of their contents.
 impl fmt::Debug for ReadingWorkspace {
     fn fmt(&self, f: &mut fmt::Formatter<'_>) -> fmt::Result {
         let Self { config, bytes, words } = self;
@@ -261,13 +262,13 @@ impl fmt::Debug for ReadingWorkspace {
     }
 }
 
-/// The bytes of workspace that a picture needs; settings that are refused need any number.
+/// Returns the length of the byte workspace that a picture needs. For settings that are refused it means nothing.
 pub const fn bytes_len(width: usize, height: usize, grid: &TileThresholdConfig) -> usize {
     let marks = tiles(width, height, grid.tile_width, grid.tile_height).saturating_mul(2);
     Geometry::packed(width, height).area().saturating_mul(9).saturating_add(marks)
 }
 
-/// The numbers of workspace that a picture needs; settings that are refused need any number.
+/// Returns the length of the u64 workspace that a picture needs. For settings that are refused it means nothing.
 pub const fn words_len(width: usize, height: usize, grid: &TileThresholdConfig) -> usize {
     sauvola::workspace_len(width, height).saturating_add(grid::workspace_len(width, height, grid))
 }

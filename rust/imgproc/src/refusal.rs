@@ -1,9 +1,9 @@
-//! Why a call was refused, and the number of each reason.
+//! The reasons why a call is refused, and the number of each.
 
 use std::error::Error;
 use std::fmt;
 
-/// A picture that its slice does not hold, or a place outside it.
+/// The refusals of a picture: its slice does not hold it, or the caller asks for a place outside it.
 #[derive(Clone, Copy, Debug, PartialEq, Eq, Hash)]
 #[non_exhaustive]
 pub enum LumaError {
@@ -19,7 +19,7 @@ pub enum LumaError {
     OutsidePicture,
 }
 
-/// Why a call was refused.
+/// The reason why a call was refused.
 #[derive(Clone, Copy, Debug, PartialEq, Eq, Hash)]
 #[non_exhaustive]
 pub enum Refusal {
@@ -39,7 +39,7 @@ pub enum Refusal {
     Unknown(u32),
 }
 
-/// A setting that is out of range: what `check` of a kind of settings finds first.
+/// A setting that is out of range. `check` of a kind of settings returns the first that it finds.
 #[derive(Clone, Copy, Debug, PartialEq, Eq, Hash)]
 #[non_exhaustive]
 pub enum SettingError {
@@ -66,7 +66,7 @@ pub enum SettingError {
 }
 
 impl LumaError {
-    /// The number that the C interface gives.
+    /// Returns the number that the C interface gives.
     pub const fn number(self) -> u32 {
         match self {
             Self::EmptyDimensions => 1,
@@ -89,7 +89,7 @@ impl LumaError {
 }
 
 impl Refusal {
-    /// The number that the C interface gives.
+    /// Returns the number that the C interface gives.
     pub const fn number(self) -> u32 {
         match self {
             Self::Image(error) => error.number(),
@@ -102,7 +102,7 @@ impl Refusal {
         }
     }
 
-    /// The refusal of a number; of 0 there is none.
+    /// Returns the refusal of a number, or `None` for 0.
     pub const fn from_number(number: u32) -> Option<Self> {
         Some(match number {
             0 => return None,
@@ -134,7 +134,7 @@ impl Refusal {
 }
 
 impl SettingError {
-    /// The field at fault, from [`ReadingConfig`](crate::reading::ReadingConfig) on.
+    /// Returns the path of the field at fault, from [`ReadingConfig`](crate::reading::ReadingConfig) on.
     pub const fn field(self) -> &'static str {
         match self {
             Self::StructuringElement => "division.structuring_element",
@@ -150,7 +150,7 @@ impl SettingError {
         }
     }
 
-    /// The refusal that a call answers for it: 6 for the opening's kernel, 7 for every other.
+    /// Returns the refusal of a call with this setting: 6 for the opening's kernel, 7 for every other.
     pub const fn refusal(self) -> Refusal {
         match self {
             Self::OpeningKernel => Refusal::InvalidKernel,
@@ -169,7 +169,7 @@ impl SettingError {
     }
 }
 
-/// A number opened: accepted, or the refusal.
+/// Turns the number of a call into a result.
 pub(crate) fn opened(number: u32) -> Result<(), Refusal> {
     match Refusal::from_number(number) {
         None => Ok(()),

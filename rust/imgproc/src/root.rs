@@ -1,6 +1,7 @@
 //! The square root of an f64.
 
-/// The correctly rounded square root; of -0.0 it is -0.0, of a NaN and of a number below zero a NaN.
+/// Returns the correctly rounded square root. The root of -0.0 is -0.0; the root of a NaN or of a number below zero is
+/// a NaN.
 pub fn root(x: f64) -> f64 {
     crate::ffi::call!(imgproc_root(x))
 }

@@ -1,4 +1,4 @@
-//! Sauvola's threshold by whole numbers.
+//! Sauvola's threshold in whole numbers.
 
 use crate::refusal::opened;
 use crate::{Geometry, Refusal, SettingError};
@@ -29,7 +29,7 @@ impl SauvolaConfig {
     ///
     /// # Errors
     ///
-    /// The radius, then k_milli, then the range.
+    /// Checks the radius, then k_milli, then the range.
     pub const fn check(&self) -> Result<(), SettingError> {
         if self.radius == 0 {
             return Err(SettingError::Radius);
@@ -44,7 +44,7 @@ impl SauvolaConfig {
     }
 }
 
-/// The call as C sees it, with slices for pointers; the number comes back, 0 for accepted.
+/// The call as C sees it, with slices for pointers. It returns the number of the refusal, or 0 if accepted.
 #[doc(hidden)]
 #[allow(missing_docs)]
 pub mod flat {
@@ -62,12 +62,12 @@ pub mod flat {
     }
 }
 
-/// Writes the dark or the light value for each pixel. The workspace needs [`workspace_len`] numbers.
+/// Writes the dark or the light value for each pixel. The workspace needs [`workspace_len`] u64s.
 ///
 /// # Errors
 ///
-/// Layout of the source, layout of the destination, 5 where they differ in width or height, 7 where
-/// [`SauvolaConfig::check`] finds a fault, 8 where the workspace is too short.
+/// Layout of the source, layout of the destination, 5 if they differ in width or height, 7 if
+/// [`SauvolaConfig::check`] finds a fault, 8 if the workspace is too short.
 pub fn sauvola_into(
     src: &[u8], src_geometry: Geometry, dst: &mut [u8], dst_geometry: Geometry, config: &SauvolaConfig,
     workspace: &mut [u64],
@@ -75,7 +75,7 @@ pub fn sauvola_into(
     opened(flat::sauvola_into(src, src_geometry, dst, dst_geometry, config, workspace))
 }
 
-/// The u64s of workspace that a picture needs: two tables of (width + 1) * (height + 1).
+/// Returns the length of the u64 workspace that a picture needs: two tables of (width + 1) * (height + 1).
 pub const fn workspace_len(width: usize, height: usize) -> usize {
     Geometry::packed(width.saturating_add(1), height.saturating_add(1)).area().saturating_mul(2)
 }

@@ -1,4 +1,4 @@
-//! The settings for a column: the numbers that tools/interface_test.c expects of C, and that they are always good.
+//! Tests the settings for a column: they are the numbers that tools/interface_test.c expects of C, and always in range.
 
 use imgproc::reading::ReadingConfig;
 

@@ -1,4 +1,4 @@
-//! The refusals: their numbers, their words, and that a check of settings finds what a call is refused for.
+//! Tests the refusals: their numbers, their words, and that a check of settings finds what a call is refused for.
 
 use imgproc::grid::TileThresholdMethod;
 use imgproc::reading::{bytes_len, reading, words_len, ReadingConfig};
@@ -55,7 +55,7 @@ fn method(k: f64, dynamic_range: f64) -> TileThresholdMethod {
     TileThresholdMethod::Sauvola { k, dynamic_range }
 }
 
-/// What a reading of a small picture answers with these settings and long workspaces.
+/// Reads a small picture with these settings and long workspaces.
 fn answer(config: &ReadingConfig) -> Result<(), Refusal> {
     let geometry = Geometry::packed(5, 4);
     let (mut dst, mut bytes, mut words) = ([0; 20], [0; 400], [0; 400]);

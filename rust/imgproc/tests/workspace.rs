@@ -1,4 +1,4 @@
-//! The owning workspace of a reading: what it refuses before it allocates, and that it reads as lent ones do.
+//! Tests the workspace that owns its slices: it refuses before it allocates, and reads as lent workspaces do.
 
 use imgproc::reading::{bytes_len, reading, words_len, ReadingConfig, ReadingWorkspace};
 use imgproc::{Geometry, LumaError, Refusal, SettingError, MAX_SIDE};
@@ -39,7 +39,7 @@ fn it_reads_as_lent_workspaces_do() {
     let mut words = vec![0; words_len(40, 33, &config.grid)];
     let counts = reading(&picture, source, &mut lent, target, &config, &mut bytes, &mut words).unwrap();
     let mut workspace = ReadingWorkspace::new(Geometry::packed(40, 33), &config).unwrap();
-    // Twice: what the first reading leaves in the workspaces does not matter.
+    // Reads twice: what the first reading leaves in the workspaces does not matter.
     for _ in 0..2 {
         assert_eq!(workspace.reading(&picture, source, &mut owned, target), Ok(counts));
         assert_eq!(lent, owned);

@@ -1,4 +1,4 @@
-//! Copies the published picture crate for lib.rs to include.
+//! Copies the published picture crate, which lib.rs includes.
 
 include!("../source.rs");
 

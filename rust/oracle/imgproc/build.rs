@@ -1,4 +1,4 @@
-//! Copies the published operators for lib.rs to include, and drops the modules that are not copied.
+//! Copies the published operators, which lib.rs includes, and drops the modules that are not copied.
 
 include!("../source.rs");
 

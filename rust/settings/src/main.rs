@@ -1,6 +1,6 @@
-//! Makes pictures of columns, reads them, and prints how much of the liquid is found and how much else is taken for it,
-//! as the tables of docs/SETTINGS.md. `settings short` reads small pictures at the corners of the page's range, and
-//! fails where one is read badly.
+//! Makes pictures of columns, reads them, and prints the tables of docs/SETTINGS.md: how much of the liquid is found,
+//! and how much else is taken for liquid. `settings short` reads small pictures at the corners of the page's range, and
+//! fails if one is read badly.
 
 mod measure;
 mod rng;
@@ -13,14 +13,14 @@ use std::process::exit;
 
 const LIQUIDS: [f64; 5] = [0.4, 0.55, 0.7, 0.8, 0.85];
 const LEVELS: [f64; 3] = [0.2, 0.5, 0.8];
-/// How many columns wide a picture of the range is, and the largest loss of light to its corners.
+/// The widths of the range's pictures in columns, each with the largest loss of light to the corners.
 const PICTURES: [(usize, f64); 4] = [(3, 0.1), (6, 0.12), (8, 0.15), (12, 0.2)];
-/// The largest noise of the range, over the light in the middle.
+/// The largest noise of the range, divided by the light in the middle.
 const NOISE: f64 = 0.01;
-/// The widest picture that is made: a wider one takes long to make and to read.
+/// The widest picture that is made. A wider one takes long to make and to read.
 const WIDEST: usize = 2000;
 
-/// The pictures of the range for one column and one liquid.
+/// Returns the pictures of the range for one column and one liquid.
 fn range(column: usize, liquid: f64) -> Vec<Scene> {
     let mut scenes = Vec::new();
     for (times, falloff) in PICTURES {
@@ -36,8 +36,8 @@ fn range(column: usize, liquid: f64) -> Vec<Scene> {
     scenes
 }
 
-/// The pictures at the corners of the range, where each number is at one of its limits, and the width that each column
-/// is taken for.
+/// Returns the pictures at the corners of the range, where each number is at one of its limits, and for each the width
+/// that the column is taken for.
 fn corners(columns: [usize; 4], widest: usize, seed: u64) -> Vec<(Scene, usize)> {
     let mut scenes = Vec::new();
     for column in columns {
@@ -65,8 +65,8 @@ fn corners(columns: [usize; 4], widest: usize, seed: u64) -> Vec<(Scene, usize)>
     scenes
 }
 
-/// Reads the corners of the range: with the seeds with which its limits were chosen, then with seeds and columns that
-/// chose nothing.
+/// Reads the corners of the range, first with the seeds with which its limits were chosen, then with other seeds and
+/// columns.
 fn at_corners() {
     println!("\nAt the corners of the range:\n");
     let (few, others) = ([8, 20, 56, 112], [11, 33, 160, 320]);
@@ -89,7 +89,7 @@ fn worst(scenes: &[Scene], config: &ReadingConfig) -> Score {
 /// A column of a table: the heading, and what its pictures change.
 type Change<'a> = (String, Box<dyn Fn(Scene) -> Scene + 'a>);
 
-/// One row a value, one column a change: the share of pictures that are read well.
+/// Prints a table with a row for each value and a column for each change: the share of pictures that are read well.
 fn shares(
     title: &str, rows: &[Change<'_>], columns: &[Change<'_>], scenes: &[Scene], rule: fn(&Scene) -> ReadingConfig,
 ) {
@@ -107,7 +107,8 @@ fn shares(
     }
 }
 
-/// One row a width of the column, one column a liquid: the least found and the most wrong, in per cent.
+/// Prints a table with a row for each width of the column and a column for each liquid: the least found and the most
+/// wrong, in per cent.
 fn by_width(title: &str, columns: &[usize], rule: fn(&Scene) -> ReadingConfig) {
     println!("\n{title}\n");
     let heads: Vec<String> = LIQUIDS.iter().map(|liquid| format!("liquid {liquid}")).collect();
@@ -123,7 +124,8 @@ fn by_width(title: &str, columns: &[usize], rule: fn(&Scene) -> ReadingConfig) {
     }
 }
 
-/// The most that is judged dark of pictures of the range whose column is empty, in per cent of the column.
+/// Reads pictures of the range whose column is empty, and prints the most that is judged dark, in per cent of the
+/// column.
 fn empty_columns() {
     let mut most = 0.0f64;
     for column in [8, 20, 56, 112] {
@@ -144,7 +146,7 @@ fn rule(scene: &Scene) -> ReadingConfig {
     ReadingConfig::for_column(scene.column)
 }
 
-/// Some columns, every liquid, every fill level.
+/// Returns pictures of some columns with every liquid and every fill level.
 fn some(columns: [usize; 3], times: usize) -> Vec<Scene> {
     let mut scenes = Vec::new();
     for column in columns {

@@ -1,9 +1,10 @@
-//! A reading held against what is known to be liquid.
+//! Compares a reading with the pixels that are known to be liquid.
 
 use crate::scene::{Picture, Scene};
 use imgproc::reading::{ReadingConfig, ReadingWorkspace};
 
-/// How much of the liquid was judged dark, and how much else, both over the pixels of liquid.
+/// The number of liquid pixels judged dark, and of other pixels judged dark, both divided by the number of liquid
+/// pixels.
 #[derive(Clone, Copy, Debug)]
 pub struct Score {
     pub found: f64,
@@ -11,10 +12,10 @@ pub struct Score {
 }
 
 impl Score {
-    /// The score that a worse one makes worse.
+    /// The best score, from which `worse` starts.
     pub const BEST: Self = Self { found: 1.0, wrong: 0.0 };
 
-    /// At least 99 % found, at most 1 % wrong.
+    /// Tells whether at least 99 % were found and at most 1 % are wrong.
     pub fn good(self) -> bool {
         self.found >= 0.99 && self.wrong <= 0.01
     }
@@ -24,7 +25,7 @@ impl Score {
     }
 }
 
-/// Reads a scene, which has some liquid.
+/// Reads a scene, which has some liquid, and scores the reading.
 pub fn measure(scene: &Scene, config: &ReadingConfig) -> Score {
     let picture = scene.picture();
     let (mut liquid, mut found, mut wrong) = (0u32, 0u32, 0u32);
@@ -37,12 +38,12 @@ pub fn measure(scene: &Scene, config: &ReadingConfig) -> Score {
     Score { found: share(found), wrong: share(wrong) }
 }
 
-/// The pixels of a scene that are judged dark.
+/// Returns the number of pixels of a scene that are judged dark.
 pub fn dark(scene: &Scene, config: &ReadingConfig) -> usize {
     judged(&scene.picture(), config).into_iter().filter(|&dark| dark).count()
 }
 
-/// Whether each pixel is judged dark.
+/// Tells for each pixel whether it is judged dark.
 fn judged(picture: &Picture, config: &ReadingConfig) -> Vec<bool> {
     let geometry = picture.geometry;
     let mut marked = vec![config.sauvola.light_value; geometry.area()];

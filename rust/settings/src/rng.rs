@@ -1,4 +1,4 @@
-//! A generator of our own, so that a seed gives the same pictures everywhere (splitmix64).
+//! A random generator of our own (splitmix64), so that a seed gives the same pictures everywhere.
 
 pub struct Rng(u64);
 
@@ -15,12 +15,12 @@ impl Rng {
         z ^ (z >> 31)
     }
 
-    /// From 0 up to 1, without 1.
+    /// Returns a number from 0 up to 1, without 1.
     pub fn unit(&mut self) -> f64 {
         (self.next() >> 11) as f64 / (1u64 << 53) as f64
     }
 
-    /// About normal, of mean 0 and deviation 1: the sum of twelve 16-bit parts.
+    /// Returns a nearly normal number of mean 0 and deviation 1: a sum of twelve 16-bit parts.
     pub fn normal(&mut self) -> f64 {
         let mut sum = 0.0;
         for _ in 0..3 {

@@ -1,4 +1,4 @@
-//! Pictures of a column, made: what is liquid in them is known.
+//! Makes pictures of a column. It is known which of their pixels are liquid.
 
 use crate::rng::Rng;
 use imgproc::Geometry;
@@ -8,7 +8,7 @@ use imgproc::Geometry;
 pub struct Scene {
     /// The picture's width in pixels.
     pub width: usize,
-    /// Its height.
+    /// The picture's height in pixels.
     pub height: usize,
     /// The column's width in pixels, between its walls.
     pub column: usize,
@@ -18,19 +18,19 @@ pub struct Scene {
     pub empty: f64,
     /// The brightness of the liquid over that of the empty column.
     pub liquid: f64,
-    /// How much of the picture's height is filled.
+    /// The filled part of the picture's height.
     pub level: f64,
     /// The standard deviation of the noise, in grey levels.
     pub noise: f64,
     /// The part of the light that is lost from the middle to the corners.
     pub falloff: f64,
-    /// Of the noise and of the column's place.
+    /// The seed of the noise and of the column's place.
     pub seed: u64,
 }
 
 impl Scene {
-    /// A column in a picture `times` as wide, 4 to 3 but at least 160 pixels high, half full of a liquid of middling
-    /// strength, with little noise in nearly even light.
+    /// Returns a column in a picture `times` as wide, 4 to 3 but at least 160 pixels high. The column is half full of a
+    /// liquid of middling strength, with little noise in nearly even light.
     pub fn new(column: usize, times: usize) -> Self {
         let width = column * times;
         Self {

@@ -1,6 +1,5 @@
-//! The answer of an accepted call, by its number. Of the calls on pictures and of queries it is a plain computation,
-//! which stands here; of the others it is what the published Rust answers. The Rust does not count comparisons:
-//! walk.rs does.
+//! Gives the answer of an accepted call, by the call's number. For the calls on pictures and for queries a plain
+//! computation here gives it, for the others the published Rust. The Rust does not count comparisons: walk.rs does.
 
 use crate::chain::{self, Settings};
 use crate::list::Answer;
@@ -44,12 +43,13 @@ fn division(s: &[u64]) -> BackgroundDivideConfig {
     }
 }
 
-/// Tile sides, radius, contrast floor, the method with the patterns of its floats, the pattern of the offset.
+/// Reads a grid's settings: tile sides, radius, contrast floor, the method with the bit patterns of its floats, the bit
+/// pattern of the offset.
 fn grid(s: &[u64]) -> TileThresholdConfig {
     let (k, dynamic_range) = (f64::from_bits(s[5]), f64::from_bits(s[6]));
     let sauvola = TileThresholdMethod::Sauvola { k, dynamic_range };
     let threshold_offset = s[7] as u16 as i16;
-    // The Rust's sum with the offset overflows above: document 01's domain ends here.
+    // With a larger offset the Rust's sum overflows: document 01's domain ends here.
     assert!(threshold_offset <= 32_512);
     TileThresholdConfig {
         tile_width: s[0] as usize,
@@ -61,7 +61,8 @@ fn grid(s: &[u64]) -> TileThresholdConfig {
     }
 }
 
-/// The Rust overflows at the largest radii: its window is already the whole picture at 65,536.
+/// Reads Sauvola's settings. The Rust overflows at the largest radii, so it gets at most 65,536, where its window is
+/// the whole picture already.
 fn sauvola(s: &[u64]) -> SauvolaConfig {
     SauvolaConfig {
         radius: s[0].min(65_536) as usize,
@@ -72,7 +73,7 @@ fn sauvola(s: &[u64]) -> SauvolaConfig {
     }
 }
 
-/// Element, target and floor, the opening's kernel, the grid's eight, Sauvola's five.
+/// Reads a reading's settings: element, target and floor, the opening's kernel, the grid's eight, Sauvola's five.
 fn reading(s: &[u64]) -> Settings {
     Settings { division: division(s), opening_kernel: s[3] as usize, grid: grid(&s[4..]), sauvola: sauvola(&s[12..]) }
 }
@@ -86,10 +87,10 @@ pub fn answer(n: &[u64], from: &[u8], to: Vec<u8>, other: Vec<u8>) -> Answer {
     }
 }
 
-/// Pixel (x, y) is the byte at y * stride + x; a plane is the rows one after another.
+/// Answers a call on a picture: pixel (x, y) is the byte at y * stride + x, and a plane is the rows one after another.
 fn plain(n: &[u64], from: &[u8], mut to: Vec<u8>) -> Answer {
     let [width, height, stride, first, second] = [1, 2, 3, 4, 5].map(|i| n.get(i).map_or(0, |&number| number as usize));
-    // Of one row the stride says nothing, and may be larger than any memory.
+    // With one row the stride does not matter, and may be larger than any memory.
     let stride = if height == 1 { 0 } else { stride };
     let (pixel, row) = (|| second * stride + first, || first * stride..first * stride + width);
     let rows = (0..height).map(|y| (y * width + first, y * stride));
@@ -109,7 +110,8 @@ fn plain(n: &[u64], from: &[u8], mut to: Vec<u8>) -> Answer {
     Answer { values, to, other: vec![] }
 }
 
-/// A tile's byte, whether it is skipped, or whether its row's are; every byte but 0 says skipped.
+/// Answers a query: a tile's byte, whether the tile is skipped, or whether its whole row is. Every byte but 0 means
+/// skipped.
 fn query(n: &[u64], buffer: &[u8]) -> u64 {
     let [tile_width, tile_height, tiles_x, x, y] = [3, 4, 5, 7, 8].map(|i| n[i] as usize);
     let row = y / tile_height * tiles_x;
@@ -144,7 +146,7 @@ fn operator(n: &[u64], from: &[u8], to: Vec<u8>) -> Answer {
         CLOSE => (2 * sweeps, grayscale_close_into(source.view(), destination.view(), kernel, &mut morphology)),
         DIVIDE => {
             let workspace = &mut IlluminationWorkspace::default();
-            // The closing's two passes: raising the background to the floor is not counted.
+            // The closing makes two passes. Raising the background to the floor is not counted.
             (2 * sweeps, background_divide_into(source.view(), destination.view(), &division(&n[7..]), workspace))
         }
         SAUVOLA => {

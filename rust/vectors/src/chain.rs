@@ -1,4 +1,5 @@
-//! A reading as the chain of the published Rust's own calls: divide, open, build the grid, binarize, apply the skips.
+//! Makes a reading by a chain of the published Rust's own calls: divide, open, build the grid, binarize, apply the
+//! skips.
 
 use crate::picture::{Destination, Picture};
 use crate::walk;
@@ -28,7 +29,7 @@ impl Default for Settings {
     }
 }
 
-/// Dark, light, skipped and comparisons.
+/// The four counts of a reading.
 #[derive(Clone, Copy, Debug, PartialEq)]
 pub struct Counts {
     pub dark: u64,
@@ -37,20 +38,20 @@ pub struct Counts {
     pub comparisons: u64,
 }
 
-/// The lengths of the two workspaces: 9wh + 2t bytes and 2(w + 1)(h + 1) + 5t words, t the number of tiles.
+/// Returns the lengths of the two workspaces: 9wh + 2t bytes and 2(w + 1)(h + 1) + 5t u64s, t the number of tiles.
 pub fn room(width: usize, height: usize, grid: &TileThresholdConfig) -> (usize, usize) {
     let tiles = width.div_ceil(grid.tile_width) * height.div_ceil(grid.tile_height);
     (9 * width * height + 2 * tiles, 2 * (width + 1) * (height + 1) + 5 * tiles)
 }
 
-/// A packed picture that a call of the Rust writes.
+/// Returns the packed picture that a call of the Rust writes.
 fn made(width: usize, height: usize, call: impl FnOnce(&mut Destination)) -> Picture {
     let mut destination = Destination::packed(width, height);
     call(&mut destination);
     Picture::packed(width, height, &destination.bytes)
 }
 
-/// Judges each pixel into the destination, and counts.
+/// Judges each pixel dark, light or skipped, writes the destination, and counts the three.
 pub fn read(picture: &Picture, destination: &mut Destination, settings: &Settings) -> Counts {
     let (width, height) = (picture.width, picture.height);
     let flattened = made(width, height, |to| {
@@ -61,7 +62,7 @@ pub fn read(picture: &Picture, destination: &mut Destination, settings: &Setting
         grayscale_open_into(flattened.view(), to.view(), settings.opening_kernel, &mut MorphologyWorkspace::default())
             .expect("accepted")
     });
-    // Two values apart, so that dark and light are told from each other whatever bytes are asked for.
+    // Uses two different values, so that dark and light can be told apart whatever bytes the settings have.
     let apart = SauvolaConfig { dark_value: 1, light_value: 0, ..settings.sauvola };
     let judged = made(width, height, |to| {
         sauvola_into(opened.view(), to.view(), &apart, &mut ThresholdWorkspace::default()).expect("accepted")

@@ -1,4 +1,4 @@
-//! What the program `column` writes for the picture that stands beside it.
+//! Makes the text that the program `column` has to write for the picture in its folder.
 
 use crate::chain::Settings;
 use crate::program;
@@ -7,13 +7,13 @@ pub const WIDTH: usize = 24;
 pub const HEIGHT: usize = 30;
 pub const INPUT: &[u8] = include_bytes!("../../../crates/column/stdin");
 
-/// What follows the header.
+/// Returns the bytes after the header.
 pub fn pixels() -> &'static [u8] {
     let header = program::form(WIDTH, HEIGHT, &[]);
     INPUT.strip_prefix(header.as_slice()).expect("a picture of these sides")
 }
 
-/// The line that answers the picture, and the rows of the destination, '#' for dark.
+/// Returns the line that answers the picture, and the rows of the destination, '#' for dark.
 pub fn text() -> String {
     let (line, marked) = program::line(WIDTH, HEIGHT, pixels());
     let mark = |&value: &u8| if value == Settings::default().sauvola.dark_value { '#' } else { '.' };

@@ -1,14 +1,14 @@
-//! The conditions under which a call is refused: each alone, each pair of them, and each limit. The numbers are
-//! document 01's, and of a pair the earlier one counts: no program is asked.
+//! Writes the conditions under which a call is refused: each alone, each pair of them, and each limit. The numbers are
+//! document 01's, and the earlier condition of a pair counts. No program computes them.
 
 use crate::list::{Line, List, FROM, TO};
 
-/// Where a picture's sides stand among the numbers, and its slice among the lengths.
+/// The place of a picture's sides among the numbers, and that of its slice among the lengths.
 pub type Place = (usize, usize);
 pub const SOURCE: Place = (1, FROM);
 pub const DESTINATION: Place = (4, TO);
 
-/// A line with another picture: its length, its sides and its stride.
+/// Gives a line another picture: its length, its sides and its stride.
 pub fn pictured(line: &Line, (sides, length): Place, [bytes, width, height, stride]: [u64; 4]) -> Line {
     let mut line = line.clone();
     line.numbers[sides..sides + 3].copy_from_slice(&[width, height, stride]);
@@ -28,24 +28,24 @@ pub fn lent(line: &Line, slice: usize, length: u64) -> Line {
     line
 }
 
-/// A condition under which a call is refused: its number, its name, and how a call is brought under it.
+/// A condition under which a call is refused: its number, its name, and a change that makes it hold.
 pub type Condition = (u64, String, Box<dyn Fn(&Line) -> Line>);
 
 pub fn condition(number: u64, what: &str, change: impl Fn(&Line) -> Line + 'static) -> Condition {
     (number, what.to_owned(), Box::new(change))
 }
 
-/// A number of the line that is refused at a value.
+/// Returns the condition that a number of the line has a bad value.
 pub fn bad(number: u64, what: &str, index: usize, value: u64) -> Condition {
     condition(number, what, move |line| numbered(line, index, value))
 }
 
-/// A slice that is one short.
+/// Returns the condition that a slice is one short.
 pub fn short(number: u64, what: &str, slice: usize) -> Condition {
     condition(number, what, move |line| lent(line, slice, line.lengths[slice] - 1))
 }
 
-/// The conditions of a picture's layout, in document 01's order.
+/// Returns the conditions of a picture's layout, in document 01's order.
 pub fn layout(what: &str, place: Place) -> Vec<Condition> {
     let (sides, length) = place;
     vec![
@@ -59,7 +59,7 @@ pub fn layout(what: &str, place: Place) -> Vec<Condition> {
     ]
 }
 
-/// Layouts of the source and of the destination, then sizes that differ.
+/// Returns the conditions of the source's layout, of the destination's, then of sizes that differ.
 pub fn pictures() -> Vec<Condition> {
     let mut all = layout("source", SOURCE);
     all.extend(layout("destination", DESTINATION));
@@ -67,7 +67,7 @@ pub fn pictures() -> Vec<Condition> {
     all
 }
 
-/// A good call, each condition alone, then each pair. The later of two is applied first, so that the earlier one
+/// Writes a good call, each condition alone, then each pair. The later of two is applied first, so that the earlier one
 /// holds as well. `answered` writes a call and its number.
 pub fn combined(l: &mut List, good: &Line, conditions: &[Condition], answered: impl Fn(&mut List, &Line, u64)) {
     answered(l, good, 0);
@@ -85,7 +85,7 @@ pub fn combined(l: &mut List, good: &Line, conditions: &[Condition], answered: i
     }
 }
 
-/// A number of the line at values that are accepted, and at values that are refused.
+/// Writes calls with a number of the line at values that are accepted, and at values that are refused.
 pub fn limits(l: &mut List, good: &Line, index: usize, accepted: &[u64], refused: &[u64], number: u64) {
     accepted.iter().for_each(|&value| l.answered(&numbered(good, index, value), 0));
     refused.iter().for_each(|&value| l.answered(&numbered(good, index, value), number));

@@ -1,4 +1,4 @@
-//! Tile grids, and queries to grids that the published Rust built.
+//! Makes the lists of tile grids, and of queries to grids that the published Rust built.
 
 use crate::asked::{BUILD, IS_SKIP, ROW_ALL_SKIP, THRESHOLD_AT};
 use crate::list::{Answer, Line, List};
@@ -6,7 +6,7 @@ use crate::picture::{noise, Picture};
 use crate::stored::{EXACT, RUST};
 use qr_lab_imgproc::threshold::{TileThresholdConfig, TileThresholdGrid};
 
-/// Of a grid: tile sides, radius, contrast floor, method, k and range as patterns, offset as a pattern.
+/// The settings of a grid: tile sides, radius, contrast floor, method, and k, range and offset as bit patterns.
 type Tiles = [u64; 8];
 
 fn tiles(tile_width: u64, tile_height: u64, radius: u64) -> Tiles {
@@ -23,7 +23,7 @@ fn with_offset(mut tiles: Tiles, offset: i16) -> Tiles {
     tiles
 }
 
-/// The buffers have `tail` bytes more than there are tiles.
+/// Writes a build. The buffers have `tail` bytes more than there are tiles.
 fn build(l: &mut List, picture: &Picture, tail: u64, tiles: Tiles) -> Answer {
     let [width, height, stride] = [picture.width, picture.height, picture.stride].map(|side| side as u64);
     let count = width.div_ceil(tiles[0]) * height.div_ceil(tiles[1]);
@@ -113,10 +113,10 @@ pub fn grid() -> List {
 
 pub const QUERY: &str = "width height tile-width tile-height tiles-x tiles-y x y;";
 
-/// Any byte but 0 says that a tile is skipped.
+/// Bytes for a skipped tile: any but 0 means skipped.
 const SKIPPED: [u8; 4] = [1, 2, 255, 128];
 
-/// The queries for some places of one grid, whose buffers have `tail` bytes more than there are tiles.
+/// Writes the queries for some places of one grid, whose buffers have `tail` bytes more than there are tiles.
 fn ask(l: &mut List, picture: &Picture, tile_width: usize, tile_height: usize, contrast_floor: u8, tail: usize) {
     let config =
         TileThresholdConfig { tile_width, tile_height, contrast_floor, neighborhood_radius: 0, ..Default::default() };

@@ -1,13 +1,13 @@
-//! The calls on one picture. Tables that were written by hand from document 01 (rust/vectors/hand) give the pictures,
-//! the places and the numbers; each row of a table is asked of every call that it fits.
+//! Writes the calls on one picture. Tables written by hand from document 01 (rust/vectors/hand) give the pictures, the
+//! places and the numbers. Each row of a table becomes one case for every call that it fits.
 
 use crate::asked::{CHECK_PIXEL, CHECK_ROW, GET, LAYOUT, PACK, ROW, ROW_MUT, SET, UNPACK};
 use crate::list::{Line, List, FROM};
 
-/// The longest slice that the runner lends: longer ones are given to the check calls as a length alone.
+/// The longest slice that crates/pictures lends. The check calls get a longer one as a length alone.
 const LENT: u64 = 8192;
 
-/// A row of a table, taken from its front.
+/// A row of a table, whose numbers are taken from its front.
 struct Row<'a>(&'a [u64]);
 
 impl Row<'_> {
@@ -24,7 +24,8 @@ impl Row<'_> {
     }
 }
 
-/// A list from a table: the table's comments but for those at its head, and what `asked` makes of each row.
+/// Makes a list from a table: the table's comments but for those at its head, and the cases that `asked` makes of a
+/// row.
 fn from_table(name: &str, table: &str, what: &str, asked: impl Fn(&mut List, &mut Row)) -> List {
     let by_hand = format!("The numbers are written by hand from document 01 (rust/vectors/hand/{name}.txt).");
     let mut list = List::new(name, &[what, &by_hand]);
@@ -44,14 +45,15 @@ fn from_table(name: &str, table: &str, what: &str, asked: impl Fn(&mut List, &mu
 /// A picture: its slice's length, its sides and its stride.
 type Picture = [u64; 4];
 
-/// A call on a picture that is lent as the first slice, or as the second, with one more of some length.
+/// Makes a call on a picture. The picture is the first slice, or the second if the call writes it; the other slice has
+/// the given length.
 fn line(which: u64, [length, width, height, stride]: Picture, others: &[u64], second: u64) -> Line {
     let numbers = [&[which, width, height, stride], others].concat();
     let lengths = if [SET, ROW_MUT, UNPACK].contains(&which) { [second, length] } else { [length, second] };
     Line { numbers, lengths: [lengths[0], lengths[1], 0, 0, 0], ..Line::default() }
 }
 
-/// Each call that is asked for a place. The row's other slice has a byte more than the row.
+/// Writes each call that takes a place. The other slice of a row call has a byte more than the row.
 fn place(l: &mut List, picture: Picture, x: u64, y: u64, pixel: u64, row: u64) {
     let [length, width, _, _] = picture;
     let checked = |which, others: &[u64]| Line { lengths: [0; 5], ..line(which, picture, others, 0) };
@@ -67,7 +69,7 @@ fn place(l: &mut List, picture: Picture, x: u64, y: u64, pixel: u64, row: u64) {
     l.answered(&line(ROW_MUT, picture, &[y], beside), row);
 }
 
-/// Both copies, with a workspace of some length and the plane from a place on.
+/// Writes both copies, with a workspace of some length and the plane from a place on.
 fn plane(l: &mut List, picture: Picture, room: u64, at: u64, number: u64) {
     l.answered(&line(PACK, picture, &[at], room), number);
     l.answered(&line(UNPACK, picture, &[at], room), number);

@@ -1,13 +1,14 @@
-//! A list of cases as crates/pictures replays it. A line has its sections in this order, separated by ';': the call
-//! and its numbers; the lengths of the five slices that are lent; the number and the values of the answer; the bytes
-//! of the first slice before the call, of the second before it, of the second after it, and of the third after it.
-//! Slices whose bytes before the call do not stand in the line hold noise.
+//! Writes a list of cases, which crates/pictures replays. A line has these sections, separated by ';': the call and its
+//! numbers; the lengths of the five lent slices; the number and the values of the answer; the bytes of the first slice
+//! before the call, of the second before it, of the second after it, and of the third after it. A slice whose bytes
+//! before the call do not stand in the line holds noise.
 
 use crate::asked;
 use crate::picture::noise;
 use std::fmt::Write;
 
-/// The places of the slices among the lengths: a source, a destination, another destination, and the two workspaces.
+/// The places of the slices among the lengths: a source, a destination, another destination, the byte workspace and the
+/// u64 workspace.
 pub const FROM: usize = 0;
 pub const TO: usize = 1;
 pub const OTHER: usize = 2;
@@ -17,7 +18,7 @@ pub const WORDS: usize = 4;
 /// The longest slice whose bytes after a call are listed.
 const LISTED: usize = 256;
 
-/// A call: its number and its numbers, the lengths, and the listed bytes of the first two slices.
+/// A call: its own number and its numeric arguments, the lengths, and the listed bytes of the first two slices.
 #[derive(Clone, Default)]
 pub struct Line {
     pub numbers: Vec<u64>,
@@ -40,7 +41,7 @@ pub struct List {
 }
 
 impl List {
-    /// A list whose head says what it holds and how it was made.
+    /// Begins a list. Its head says what it holds and how it was made.
     pub fn new(name: &str, head: &[&str]) -> Self {
         let form = "A line: call numbers; lengths; number values; bytes before and after (rust/vectors/src/list.rs).";
         let mut list = Self::default();
@@ -61,7 +62,8 @@ impl List {
         writeln!(self.text, "# {line}").expect("a string takes every line");
     }
 
-    /// What a slice of the next case holds before the call: listed bytes, or the noise that crates/pictures makes.
+    /// Returns what a slice of the next case holds before the call: listed bytes, or the noise that crates/pictures
+    /// makes.
     fn held(&self, line: &Line, slice: usize) -> Vec<u8> {
         let listed = [&line.from, &line.before].get(slice).map_or(&[][..], |bytes| bytes);
         if listed.is_empty() {
@@ -72,12 +74,12 @@ impl List {
         listed.to_vec()
     }
 
-    /// A refused call, which leaves every slice as it was. The number is document 01's.
+    /// Writes a refused call, which leaves every slice as it was. The number is document 01's.
     pub fn refused(&mut self, line: &Line, number: u64) {
         self.write(line, number, &[], &[], &[]);
     }
 
-    /// An accepted call, whose answer `asked` has.
+    /// Writes an accepted call, whose answer comes from `asked`.
     pub fn accepted(&mut self, line: &Line) -> Answer {
         let from = self.held(line, FROM);
         let answer = asked::answer(&line.numbers, &from, self.held(line, TO), self.held(line, OTHER));
@@ -86,7 +88,7 @@ impl List {
         answer
     }
 
-    /// Refused with a number, or accepted where that is 0.
+    /// Writes a call that is refused with a number, or accepted if that is 0.
     pub fn answered(&mut self, line: &Line, number: u64) {
         if number == 0 {
             self.accepted(line);
@@ -95,8 +97,8 @@ impl List {
         }
     }
 
-    /// An input of the program `reading`, whose answer begins the third slice, and whose picture, if it is one, is
-    /// marked in the second. The number says that both workspaces and the second slice stay as they were.
+    /// Writes an input of the program `reading`. Its answer begins the third slice, and its picture, if it is one, is
+    /// marked in the second. The number is 1 if both workspaces and the second slice stay as they were.
     pub fn printed(&mut self, line: &Line, answer: &str, marked: Option<&[u8]>) {
         let (mut to, mut other) = (self.held(line, TO), self.held(line, OTHER));
         let pixels = marked.unwrap_or_default();

@@ -1,6 +1,6 @@
 //! Makes the lists that crates/pictures replays: document 01's refusals, and the answers of the published Rust.
-//! `column` is what the program of that name writes. `check` makes everything again and compares it with what is
-//! stored.
+//! `vectors column` prints the text that the program of that name has to write. `vectors check` makes everything again
+//! and compares it with what is stored.
 
 mod asked;
 mod chain;
@@ -44,7 +44,7 @@ const LISTS: [(&str, fn() -> List); 20] = [
     ("answers", program::list),
 ];
 
-/// Every file that is made, by its place below crates/, and its text.
+/// Makes every file. Returns each path below crates/ with its text.
 fn made() -> Vec<(String, String)> {
     let lists = LISTS.iter().map(|(name, list)| (format!("pictures/data/{name}.txt"), list().text().to_owned()));
     let words = LISTS.iter().map(|(name, _)| format!("{name}.txt\n")).collect();
@@ -52,7 +52,7 @@ fn made() -> Vec<(String, String)> {
     lists.chain(others).collect()
 }
 
-/// Whether what is stored is what is made, and no list is stored that is not made.
+/// Tells whether the stored files are the made ones, and no other list is stored.
 fn check(crates: &Path) -> bool {
     let made = made();
     let differs =

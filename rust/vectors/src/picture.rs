@@ -12,7 +12,7 @@ pub struct Picture {
 }
 
 impl Picture {
-    /// What lies beside the rows is 0 and 255 by turns, so that an operator that reads it errs.
+    /// Makes a picture. The bytes beside the rows are 0 and 255 by turns, so that an operator that reads them errs.
     pub fn new(width: usize, height: usize, stride: usize, tail: usize, pixels: &[u8]) -> Self {
         assert_eq!(pixels.len(), width * height, "a byte for each pixel");
         let mut bytes: Vec<u8> =
@@ -23,17 +23,18 @@ impl Picture {
         Self { width, height, stride, bytes }
     }
 
-    /// Of one row the stride says nothing, and the Rust is given another where it is larger than any memory.
+    /// Makes a picture of lent bytes. With one row the stride does not matter and may be larger than any memory, so the
+    /// Rust gets the width instead.
     pub fn lent(width: usize, height: usize, stride: usize, bytes: Vec<u8>) -> Self {
         Self { width, height, stride: if height == 1 { width } else { stride }, bytes }
     }
 
-    /// With no padding and no tail.
+    /// Makes a picture with no padding and no tail.
     pub fn packed(width: usize, height: usize, pixels: &[u8]) -> Self {
         Self::new(width, height, width, 0, pixels)
     }
 
-    /// One row.
+    /// Makes a picture of one row.
     pub fn row(pixels: &[u8]) -> Self {
         Self::packed(pixels.len(), 1, pixels)
     }
@@ -55,7 +56,7 @@ impl Destination {
         Self { width, height, stride: if height == 1 { width } else { stride }, bytes }
     }
 
-    /// With no padding and no tail.
+    /// Makes a destination with no padding and no tail.
     pub fn packed(width: usize, height: usize) -> Self {
         Self::lent(width, height, width, vec![0; width * height])
     }
@@ -65,7 +66,7 @@ impl Destination {
     }
 }
 
-/// So many bytes that look random and are the same each time.
+/// Returns bytes that look random and are the same each time.
 pub fn noise(count: usize, seed: u32) -> Vec<u8> {
     let mut state = seed;
     (0..count)

@@ -1,4 +1,4 @@
-//! Inputs of the program `reading`, good and malformed, and the line that answers each.
+//! Makes inputs of the program `reading`, good and malformed, and the line that answers each.
 
 use crate::asked;
 use crate::chain::{read, room, Counts, Settings};
@@ -6,7 +6,7 @@ use crate::column;
 use crate::list::{Line, List};
 use crate::picture::{noise, Destination, Picture};
 
-/// The lengths of the slices that a call is lent: destination, bytes, words and the room for the line.
+/// The lengths of the slices that a call is lent: destination, byte workspace, u64 workspace and line.
 #[derive(Clone, Copy)]
 struct Lent {
     destination: usize,
@@ -15,10 +15,11 @@ struct Lent {
     out: usize,
 }
 
-/// What the program lends: enough for 60 by 60 pixels, and 128 bytes for the line.
+/// The lengths that the program lends: enough for 60 by 60 pixels, and 128 bytes for the line.
 const PROGRAM: Lent = Lent { destination: 3600, bytes: 32_432, words: 7522, out: 128 };
 
-/// A picture is marked in the destination; where there is none, the destination and the workspaces stay as they were.
+/// Writes a case. A picture is marked in the destination; if the input is none, the destination and the workspaces stay
+/// as they were.
 fn case(l: &mut List, input: &[u8], lent: Lent, line: &str, marked: Option<&[u8]>) {
     let lengths = [input.len(), lent.destination, lent.out, lent.bytes, lent.words].map(|length| length as u64);
     let numbers = vec![asked::PROGRAM, u64::from(marked.is_none())];
@@ -29,13 +30,13 @@ fn refused(l: &mut List, input: &[u8], lent: Lent, number: u32) {
     case(l, input, lent, &format!("refused {number}\n"), None);
 }
 
-/// A picture in document 01's form.
+/// Returns a picture in document 01's form.
 pub fn form(width: usize, height: usize, pixels: &[u8]) -> Vec<u8> {
     let header = format!("P5 {width} {height} 255\n");
     [header.as_bytes(), pixels].concat()
 }
 
-/// The line that document 01 has for a picture, from the Rust's chain with the program's settings, and the marks.
+/// Returns the line for a picture, from the Rust's chain with the program's settings, and the marked destination.
 pub fn line(width: usize, height: usize, pixels: &[u8]) -> (String, Vec<u8>) {
     let picture = Picture::packed(width, height, pixels);
     let mut marked = Destination::packed(width, height);
@@ -44,7 +45,7 @@ pub fn line(width: usize, height: usize, pixels: &[u8]) -> (String, Vec<u8>) {
     (format!("{width} {height} {dark} {light} {skipped} {comparisons}\n"), marked.bytes)
 }
 
-/// A picture; of a small one the destination is short enough to be listed.
+/// Writes a picture. The destination of a small one is short enough to be listed.
 fn good(l: &mut List, what: &str, width: usize, height: usize, pixels: &[u8]) -> String {
     l.comment(what);
     let (line, marked) = line(width, height, pixels);
@@ -53,7 +54,7 @@ fn good(l: &mut List, what: &str, width: usize, height: usize, pixels: &[u8]) ->
     line
 }
 
-/// A page with strokes in its first quarter, and nothing in the others.
+/// Returns a page with strokes in its first quarter, and nothing in the others.
 fn page(width: usize, height: usize) -> Vec<u8> {
     let grain = noise(width * height, 51);
     (0..width * height)
@@ -82,7 +83,7 @@ fn pictures(l: &mut List) {
     }
 }
 
-/// Inputs of another form, entire, one behind each '|'.
+/// Whole inputs of another form, separated by '|'.
 const MALFORMED: [(&str, &str); 4] = [
     ("nothing, and parts of the form", "|P|P5|P5 |P5 2|P5 2 |P5 2 1|P5 2 1 255|P5 2 1 255\n"),
     ("a byte missing, and a byte too many", "P5 2 1 255\n0|P5 2 1 255\n000|P5 0 5 255\n0|P5 1 1 255\n0\n"),
@@ -90,7 +91,7 @@ const MALFORMED: [(&str, &str); 4] = [
     ("sides above 60 that are empty", "P5 61 0 255\n|P5 0 61 255\n|P5 600 0 255\n"),
 ];
 
-/// Headers of another form; two pixels follow.
+/// Headers of another form, separated by '|'. Two pixels follow each.
 const HEADERS: [(&str, &str); 8] = [
     ("another kind of picture", "P2 2 1 255\n|P6 2 1 255\n|p5 2 1 255\n| P5 2 1 255\n|\u{feff}P5 2 1 255\n"),
     ("two spaces, a tab, a line feed for a space", "P5  2 1 255\n|P5 2  1 255\n|P5\t2 1 255\n|P5\n2 1 255\n"),
@@ -128,7 +129,7 @@ fn malformed(l: &mut List) {
     refused(l, &[form(60, 60, &page(60, 60)), vec![0]].concat(), PROGRAM, 11);
 }
 
-/// Slices exact and one short, for the row of document 01 in one tile.
+/// Writes cases with exact slices and with one that is short, for document 01's row in one tile.
 fn short(l: &mut List) {
     let input = form(2, 1, &[0, 200]);
     let (bytes, words) = room(2, 1, &Settings::default().grid);

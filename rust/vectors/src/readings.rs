@@ -1,4 +1,4 @@
-//! Readings.
+//! Makes the list of readings.
 
 use crate::asked::READING;
 use crate::grids::TILES;
@@ -10,23 +10,23 @@ use crate::stored::{asked, each, EXACT, WALK};
 /// dark light.
 pub type Reading = [u64; 17];
 
-/// Both kernels, and else document 01's settings.
+/// Returns document 01's settings with these kernels.
 pub fn kernels(element: u64, opening: u64) -> Reading {
     [element, 200, 8, opening, 16, 16, 1, 12, 0, 0, 0, 0, 8, 200, 128, 0, 255]
 }
 
-/// Settings with some of their numbers changed.
+/// Changes some numbers of settings.
 fn with(mut settings: Reading, changes: &[(usize, u64)]) -> Reading {
     changes.iter().for_each(|&(index, value)| settings[index] = value);
     settings
 }
 
-/// Tiles by themselves, with a contrast floor and a small window.
+/// Sets tiles without neighbours, a contrast floor and a small window.
 fn tiled(settings: Reading, tile_width: u64, tile_height: u64, floor: u64) -> Reading {
     with(settings, &[(4, tile_width), (5, tile_height), (6, 0), (7, floor), (12, 2)])
 }
 
-/// Light glass with two dark runs on the left, and one value on the right.
+/// Returns a light picture with dark stripes in its left half, and one value in the right half.
 fn half_flat(width: usize, height: usize) -> Vec<u8> {
     (0..width * height)
         .map(|i| match (i % width, i / width) {
@@ -36,7 +36,7 @@ fn half_flat(width: usize, height: usize) -> Vec<u8> {
         .collect()
 }
 
-/// Dark runs of five samples and light ones of four, then one value.
+/// Returns dark runs of five samples and light ones of four, then one value.
 fn runs(count: usize) -> Vec<u8> {
     let run = |i: usize| (if i % 9 < 5 { 50 } else { 170 }) + i as u8;
     (0..count).map(|i| if i >= 14 { 180 } else { run(i) }).collect()
@@ -47,7 +47,7 @@ fn readings(l: &mut List, what: &str, picture: &Picture, stride: usize, tail: us
     each(l, what, READING, picture, stride, tail, &settings);
 }
 
-/// The picture has light pixels, dark ones and such that are skipped.
+/// Writes readings of a picture that has light, dark and skipped pixels.
 fn judgements(l: &mut List) {
     let glass = Picture::new(10, 7, 13, 2, &half_flat(10, 7));
     l.comment("dark, light and skipped; tiles ragged on both sides");

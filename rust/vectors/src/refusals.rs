@@ -1,5 +1,5 @@
-//! Refusals of each call, with limits exact and one short. Accepted calls among them are answered as the stored ones
-//! are.
+//! Makes the lists of refusals of each call, with limits exact and one short. The answers of accepted calls among them
+//! come from `asked`, as in the other lists.
 
 use crate::asked::{BUILD, CLOSE, DILATE, DIVIDE, ERODE, IS_SKIP, OPEN, READING, ROW_ALL_SKIP, SAUVOLA, THRESHOLD_AT};
 use crate::conditions::{
@@ -16,14 +16,14 @@ const SETTINGS: usize = 7;
 const ODD: [u64; 4] = [3, 5, 4097, u64::MAX];
 const EVEN_OR_SMALL: [u64; 6] = [0, 1, 2, 4, 4096, u64::MAX - 1];
 
-/// 4 by 3 in two strides, each slice as short as it may be.
+/// Makes a call on pictures of 4 by 3 with two strides, each slice as short as it may be.
 fn operator(which: u64, settings: &[u64]) -> Line {
     let (bytes, words) = room(which, 4, 3, settings);
     let numbers = [&[which, 4, 3, 5, 4, 3, 6], settings].concat();
     Line { numbers, lengths: [14, 16, 0, bytes, words], ..Line::default() }
 }
 
-/// Two pictures of one size, packed.
+/// Makes a call on two packed pictures of one size.
 fn packed(which: u64, width: u64, height: u64, settings: &[u64]) -> Line {
     let (bytes, words) = room(which, width, height, settings);
     let line = Line { lengths: [0, 0, 0, bytes, words], ..operator(which, settings) };
@@ -31,7 +31,7 @@ fn packed(which: u64, width: u64, height: u64, settings: &[u64]) -> Line {
     pictured(&pictured(&line, SOURCE, picture), DESTINATION, picture)
 }
 
-/// Sizes that differ in each way, and layouts at their ends, all with settings and a workspace that are good.
+/// Writes sizes that differ in each way, and layouts at their limits, all with good settings and workspaces.
 fn sizes(l: &mut List, good: &Line) {
     l.comment("sizes that differ in the width, in the height, in both; the same area turned");
     for destination in [[15, 3, 3, 6], [17, 5, 3, 6], [22, 4, 4, 6], [9, 3, 2, 6], [12, 3, 4, 3]] {
@@ -55,7 +55,7 @@ fn sizes(l: &mut List, good: &Line) {
     }
 }
 
-/// The workspace exact and one short, at several sizes.
+/// Writes calls with an exact workspace and with one that is one short, at several sizes.
 fn rooms(l: &mut List, which: u64, settings: &[u64], slice: usize) {
     l.comment("the workspace exact, one short, none, and longer");
     for (width, height) in [(1, 1), (4, 3), (1, 9), (9, 1), (4096, 1), (1, 4096)] {
@@ -78,7 +78,7 @@ fn refusals(name: &str, head: &[&str]) -> List {
     List::new(name, &[head, &[BY_HAND, KEEPS]].concat())
 }
 
-/// All refusals of one operator, and then its settings' limits.
+/// Writes all refusals of one operator, and then its settings' limits.
 fn all(l: &mut List, good: &Line, settings: Vec<Condition>, slice: usize, limits: impl Fn(&mut List, &Line)) {
     let mut conditions = pictures();
     conditions.extend(settings);
@@ -128,7 +128,7 @@ pub fn sauvola() -> List {
     l
 }
 
-/// The pattern of a NaN, with a sign and digits of its own.
+/// The bit pattern of a NaN with another sign and payload.
 const OTHER_NAN: u64 = 0xfff0_0000_0000_0001;
 
 /// The places of a grid's method, k and range.
@@ -248,7 +248,7 @@ pub fn reading() -> List {
     l
 }
 
-/// The number of a pixel's queries, and that of its row's.
+/// Writes the three queries for one place, with the number of the pixel's two and that of the row's.
 fn asked(l: &mut List, query: &Line, pixel: u64, row: u64) {
     for (which, number) in [(THRESHOLD_AT, pixel), (IS_SKIP, pixel), (ROW_ALL_SKIP, row)] {
         l.answered(&numbered(query, 0, which), number);
@@ -262,7 +262,7 @@ pub fn queries() -> List {
         "10 a buffer under tiles-x * tiles-y bytes; 9 a pixel or row outside; 0 answered by a plain walk (asked.rs).";
     let mut list = List::new("queries_refusals", &[head, QUERY, numbers, others, BY_HAND]);
     let l = &mut list;
-    // 8 by 7 in tiles of 3 by 2: 3 by 4 of them. The numbers from 1 on: sides, tile sides, tile counts, x, y.
+    // A picture of 8 by 7 in tiles of 3 by 2 has 3 by 4 of them. The numbers: sides, tile sides, tile counts, x, y.
     let query = |numbers: [u64; 8], room: u64| Line {
         numbers: [&[0], &numbers[..]].concat(),
         lengths: [room, 0, 0, 0, 0],

@@ -1,4 +1,4 @@
-//! Operators from a source to a destination whose bytes stand in the lists.
+//! Makes the lists of the operators from a source to a destination.
 
 use crate::asked::{CLOSE, DILATE, DIVIDE, ERODE, OPEN, SAUVOLA};
 use crate::list::{Answer, Line, List};
@@ -8,7 +8,7 @@ pub const RUST: &str = "The bytes are those of the published Rust, aukilabs/qr-l
 pub const WALK: &str = "The comparisons, which it does not count, are a plain walk over the indices (walk.rs).";
 pub const EXACT: &str = "The workspaces are as short as they may be.";
 
-/// The lengths of the two workspaces of an operator, by document 01.
+/// Returns the lengths of the two workspaces of an operator, by document 01.
 pub fn room(which: u64, width: u64, height: u64, settings: &[u64]) -> (u64, u64) {
     let (area, table) = (width * height, 2 * (width + 1) * (height + 1));
     match which {
@@ -22,7 +22,7 @@ pub fn room(which: u64, width: u64, height: u64, settings: &[u64]) -> (u64, u64)
     }
 }
 
-/// A call from a picture to a destination of its size, with a stride and a tail.
+/// Writes a call from a picture to a destination of its size, with a stride and a tail.
 pub fn asked(l: &mut List, which: u64, picture: &Picture, stride: usize, tail: usize, settings: &[u64]) -> Answer {
     let [width, height, from] = [picture.width, picture.height, picture.stride].map(|side| side as u64);
     let (bytes, words) = room(which, width, height, settings);
@@ -44,7 +44,7 @@ pub fn each(l: &mut List, what: &str, which: u64, picture: &Picture, stride: usi
     }
 }
 
-/// Every call of morphology on one picture.
+/// Writes every call of morphology on one picture.
 fn four(l: &mut List, what: &str, picture: &Picture, stride: usize, tail: usize, kernel: u64) {
     l.comment(what);
     for which in [ERODE, DILATE, OPEN, CLOSE] {
@@ -52,20 +52,20 @@ fn four(l: &mut List, what: &str, picture: &Picture, stride: usize, tail: usize,
     }
 }
 
-/// Light pixels with one dark one.
+/// Returns light pixels with one dark one.
 fn spot(width: usize, height: usize, x: usize, y: usize) -> Vec<u8> {
     let mut pixels = vec![200; width * height];
     pixels[y * width + x] = 10;
     pixels
 }
 
-/// A picture whose outermost pixels differ from all others, and from each other.
+/// Returns a picture whose outermost pixels differ from all others, and from each other.
 fn frame(width: usize, height: usize) -> Vec<u8> {
     let outer = |x: usize, y: usize| x == 0 || y == 0 || x == width - 1 || y == height - 1;
     (0..width * height).map(|i| if outer(i % width, i / width) { (i * 5 % 256) as u8 } else { 128 }).collect()
 }
 
-/// Columns of 0 and 255 by turns, two wide.
+/// Returns columns of 0 and 255 by turns, two wide.
 fn stripes(width: usize, height: usize) -> Vec<u8> {
     (0..width * height).map(|i| if i % width % 4 < 2 { 0 } else { 255 }).collect()
 }
@@ -97,7 +97,7 @@ pub fn morphology() -> List {
 }
 
 pub fn division() -> List {
-    // The least and the largest of target and floor, and the Rust's own.
+    // The Rust's own target and floor, and the least and the largest of both.
     let extremes: [&[u64]; 5] = [&[3, 200, 8], &[3, 255, 1], &[3, 0, 1], &[3, 255, 255], &[3, 0, 255]];
     let kernels: [&[u64]; 5] = [&[3, 200, 8], &[5, 200, 8], &[31, 200, 8], &[u64::MAX, 255, 1], &[7, 128, 100]];
     let head = "Background division, call 13: width height stride of both pictures, element target floor; comparisons.";
@@ -121,7 +121,7 @@ pub fn division() -> List {
     list
 }
 
-/// Pixels near a page's edge: light with darker strokes, so that both verdicts come up.
+/// Returns light pixels with darker strokes, so that both verdicts occur.
 fn strokes(width: usize, height: usize) -> Vec<u8> {
     let light = |x: usize, y: usize| 150 + 7 * x as u8 + 5 * y as u8;
     let stroke = |x: usize, y: usize| light(x, y) - if (x + 2 * y) % 5 == 0 { 90 } else { 0 };

@@ -1,14 +1,15 @@
 -- The work of an accepted division: what is packed, closed, divided and painted is the contract's picture; and the ways out of its settings. Assumes nothing.
 use mathlib.Core.Path.{_≡_, sym, ap, ap₂, _∙_}
 use mathlib.Core.List.{List}
+use mathlib.Core.Logic.{inl}
 use Prim.Native.Nat.{ℕ, _+_, _*_, _%_, _≤_, _<_}
 use native.Mathlib.Omega.{arith}
-use lib.ListN.{length}
+use lib.ListN.{length, getD}
 use borrow.Author.Tests.{eq-eqb, ne-eqb, lt-ltb, le-ltb}
 use Rattle.image.specs.declared.Geometry.{Geometry}
 use Rattle.image.specs.Answers.{Answer, Bare}
-use Rattle.image.specs.Plane.{pixel, picture, part, overwritten}
-use Rattle.image.specs.PlaneLaws.{length-plane, length-overwritten, part-overwritten}
+use Rattle.image.specs.Plane.{picture, part}
+use Rattle.image.specs.PlaneLaws.{in-plane, is-plane, length-part, getD-part}
 use Rattle.image.specs.Copy.{Packs, Unpacks}
 use Rattle.imgproc.specs.declared.illumination.BackgroundDivideConfig.{BackgroundDivideConfig}
 use Rattle.imgproc.specs.declared.ImgProcError.the-variants.{InvalidConfiguration}
@@ -19,15 +20,11 @@ use Rattle.imgproc.specs.Morphology.{closed}
 use Rattle.imgproc.specs.Sweeps.{TwiceReady, TwiceMorphed}
 use Rattle.imgproc.specs.Refusals.{first, divisionSettings}
 use Rattle.imgproc.specs.Calls.{Loan, Works}
-use Rattle.imgproc.specs.Division.{quotient, dividedBy, divided, division, FlattenReady, Flattened, DivideReady}
+use Rattle.imgproc.specs.Division.{quotient, dividedBy, divided, division, PlaneDivided, FlattenReady, Flattened, DivideReady}
 use Rattle.image.specs.LayoutLaws.{area-small}
 use Rattle.image.specs.CopyLaws.{packs-plane}
 use Rattle.imgproc.proofs.Serving.{unpacked-works}
 use Rattle.imgproc.proofs.morphology.Runs.{twice-ready}
-
-pub length-divided : (d : BackgroundDivideConfig) (w h : ℕ) (p c : List ℕ) → length (dividedBy d w h p c) ≡ w * h
-unfolding dividedBy
-length-divided d w h p c = length-plane w h (λ x y. quotient d (pixel p w x y) (pixel c w x y))
 
 -- ---- packed, closed, divided
 module _ (tally : Tally) (src : List ℕ) (g : Geometry) (d : BackgroundDivideConfig) (ws : List ℕ) (ready : FlattenReady tally src g d ws)
@@ -44,27 +41,42 @@ module _ (tally : Tally) (src : List ℕ) (g : Geometry) (d : BackgroundDivideCo
   })
 
   module _ (raised : Tally) (second : List ℕ) (close : TwiceMorphed closed tally first 0 (g .width * g .height) (2 * (g .width * g .height)) (d .«structuring_element») (g .width) (g .height) raised second) where
-    pub close-long : length second ≡ length ws
+    close-long : length second ≡ length ws
     close-long = close .kept .long ∙ plane .0
+
+    -- the closing leaves the packed picture in the first plane
+    pixel-at : (i : ℕ) → i < g .width * g .height → getD second (0 + i) 0 ≡ getD (picture src g) i 0
+    pixel-at i l =
+        close .kept .same (0 + i) (record { off = inl (omega arith) }) (record { off = inl (omega arith) })
+        ∙ sym (getD-part 0 (g .width * g .height) first (omega (arith, plane .0, ready .fits)) i l)
+        ∙ ap (λ (p : List ℕ). getD p i 0) (plane .1)
+
+    background-at :
+        (i : ℕ)
+        → i < g .width * g .height
+        → getD second (g .width * g .height + i) 0 ≡ getD (closed (d .«structuring_element») (g .width) (g .height) (picture src g)) i 0
+    background-at i l =
+        sym (getD-part (g .width * g .height) (g .width * g .height) second (omega (arith, close-long, ready .fits)) i l)
+        ∙ ap (λ (p : List ℕ). getD p i 0) (close .leaves ∙ ap (closed (d .«structuring_element») (g .width) (g .height)) (plane .1))
 
     pub flattened :
         {third : List ℕ}
-        → third ≡ overwritten (g .width * g .height) (dividedBy d (g .width) (g .height) (picture src g) (part (g .width * g .height) (g .width * g .height) second)) second
+        → PlaneDivided d 0 (g .width * g .height) (g .width * g .height) second third
         → Flattened tally src g d ws raised third
-    unfolding divided
-    flattened {third} is =
+    unfolding divided dividedBy
+    flattened {third} divide =
         let n = g .width * g .height in
-        let p = picture src g in
-        let q = dividedBy d (g .width) (g .height) p (part n n second) in
-        let long : length q ≡ n = length-divided d (g .width) (g .height) p (part n n second) in
-        let fits : n + length q ≤ length second = omega (arith, close-long, ready .fits) in
+        let long : length third ≡ length ws = divide .rest .long ∙ close-long in
+        let fits : n + n ≤ length third = omega (arith, ready .fits) in
         record {
           leaves =
-              ap₂ (λ (m : ℕ) (z : List ℕ). part n m z) (sym long) is
-              ∙ part-overwritten n q second fits
-              ∙ ap (dividedBy d (g .width) (g .height) p) (close .leaves ∙ ap (closed (d .«structuring_element») (g .width) (g .height)) (plane .1));
+              is-plane (g .width) (g .height) _ (part n n third) (ready .from .wide) (length-part n n third fits)
+              (λ x y X Y.
+              let i = y * g .width + x in
+              let l = in-plane (g .width) (g .height) x y X Y in
+              getD-part n n third fits i l ∙ divide .each i l ∙ ap₂ (quotient d) (pixel-at i l) (background-at i l));
           counted = close .counted;
-          long = ap length is ∙ length-overwritten n q second fits ∙ close-long;
+          long = long;
         }
 
 -- ---- and painted

@@ -19,7 +19,7 @@ use Rattle.imgproc.specs.Morphology.{sweptRect, swept}
 use Rattle.imgproc.specs.MorphologyLaws.{reach-in, is-swept}
 use Rattle.imgproc.specs.Sweeps.{lane, Off, Spared, Reached, LinesSwept, Turned, SweepReady, RowsSwept, ColumnsSwept, MorphReady, Morphed, PairReady, PairMorphed, TwiceReady, TwiceMorphed}
 use Rattle.imgproc.proofs.morphology.sweeps.Blocks.{order, seen}
-use Rattle.imgproc.proofs.morphology.sweeps.Lanes.{off, apart-within, outside-at, line-order}
+use Rattle.imgproc.proofs.morphology.Lanes.{off, apart-within, outside-at, line-order}
 
 -- a place off a stretch is off each stretch within it
 pub off-within : {at n j : ℕ} (a m : ℕ) → Off at n j → at ≤ a → a + m ≤ at + n → Off a m j

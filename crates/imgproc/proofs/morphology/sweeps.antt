@@ -1,4 +1,3 @@
--- The sweeps: blocks of a line, rows of lanes, and what the passes leave. Assumes nothing.
+-- The sweeps: blocks of a line, and what the passes leave. Assumes nothing.
 pub mod Blocks
-pub mod Lanes
 pub mod Passes

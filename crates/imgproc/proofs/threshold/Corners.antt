@@ -1,6 +1,6 @@
 -- Four corners of each table give the sums of a pixel's window, these are sane, and so its threshold is the definition's. Assumes nothing.
-use Prim.Native.Nat.{ℕ, _+_, _-_, _*_, _≤_, _<_, min}
-use native.Mathlib.Nat.{mul-le-mul, mul-le-mul-right, mul-pos, add-sub-of-le, le-trans}
+use Prim.Native.Nat.{ℕ, _+_, _-_, _*_, _≤_, _<_}
+use native.Mathlib.Nat.{mul-le-mul, mul-le-mul-right, mul-pos, add-sub-of-le, sub-le, le-trans}
 use native.Mathlib.Omega.{arith}
 use mathlib.Core.Path.{_≡_, sym, _∙_, subst}
 use mathlib.Core.List.{List}
@@ -63,9 +63,12 @@ module _
           },
         )
 
--- along an axis of n, the columns of a window from x0 to x1, the end left out
-span-long : (r n x x0 x1 : ℕ) → x < n → x0 ≡ x - r → x1 ≡ min (x + r + 1) n → x1 - x0 ≡ high r n x + 1 - low r x
-span-long r n x x0 x1 l p q = omega arith
+-- a side from a to b, the end left out: it has a place, and none past b
+side-some : {a b : ℕ} → a < b → 0 < b - a
+side-some l = omega arith
+
+side-in : (a b n : ℕ) → b ≤ n → (i : ℕ) → i < b - a → a + i < n
+side-in a b n l i m = omega arith
 
 -- what the loops ask of a window from x0 to x1 and from y0 to y1, the ends left out: its corners, its count, and the sums that its corners give
 pub record WindowSums (d : List ℕ) (g : Geometry) (ws : List ℕ) (base : ℕ) (config : SauvolaConfig) (x y x0 x1 y0 y1 : ℕ) : Type 0 where
@@ -83,8 +86,8 @@ pub record WindowSums (d : List ℕ) (g : Geometry) (ws : List ℕ) (base : ℕ)
 module _
     (d : List ℕ) (g : Geometry) (ws : List ℕ) (base : ℕ) (config : SauvolaConfig) (R : Ready d g ws base config) (byte : (i : ℕ) → getD d i 0 ≤ 255)
     (x y x0 x1 y0 y1 : ℕ) (a : x < g .width) (b : y < g .height)
-    (p0 : x0 ≡ x - config .radius) (p1 : x1 ≡ min (x + config .radius + 1) (g .width))
-    (q0 : y0 ≡ y - config .radius) (q1 : y1 ≡ min (y + config .radius + 1) (g .height))
+    (p0 : x0 ≡ low (config .radius) x) (p1 : x1 ≡ high (config .radius) (g .width) x + 1)
+    (q0 : y0 ≡ low (config .radius) y) (q1 : y1 ≡ high (config .radius) (g .height) y + 1)
   where
     f : ℕ → ℕ → ℕ
     f = pixelsOf d g
@@ -116,9 +119,9 @@ module _
 
     small-count : (x1 - x0) * (y1 - y0) ≤ areaLimit
     small-count =
-        let u = R .layout .small-width in
-        let v = R .layout .small-height in
-        sides-small (x1 - x0) (y1 - y0) (omega (arith, spans)) (omega (arith, spans))
+        sides-small (x1 - x0) (y1 - y0)
+        (le-trans (sub-le x1 x0) (le-trans (spans .0 .1) (R .layout .small-width)))
+        (le-trans (sub-le y1 y0) (le-trans (spans .1 .1) (R .layout .small-height)))
 
     -- the sums that `rect_sum` gave
     module _ (S Q : ℕ) (s : S ≡ cornerSum ws base (g .width + 1) x0 y0 x1 y1) (q : Q ≡ cornerSum ws (base + (g .width + 1) * (g .height + 1)) (g .width + 1) x0 y0 x1 y1) where
@@ -130,11 +133,15 @@ module _
 
       sums-sane : Sane S Q ((x1 - x0) * (y1 - y0))
       sums-sane =
-          let c0 : 0 < (x1 - x0) * (y1 - y0) = mul-pos (omega (arith, spans)) (omega (arith, spans)) in
+          let across : (i : ℕ) → i < x1 - x0 → x0 + i < g .width = side-in x0 x1 (g .width) (spans .0 .1) in
+          let down : (j : ℕ) → j < y1 - y0 → y0 + j < g .height = side-in y0 y1 (g .height) (spans .1 .1) in
+          let c0 : 0 < (x1 - x0) * (y1 - y0) = mul-pos (side-some (spans .0 .0)) (side-some (spans .1 .0)) in
           record {
             some = c0;
-            bright = omega (arith, S-is, box-le (λ i j. f (x0 + i) (y0 + j)) 255 (x1 - x0) (y1 - y0) (λ i j l m. bytes (x0 + i) (y0 + j) (omega (arith, spans)) (omega (arith, spans))));
-            squares = omega (arith, Q-is, box-le (λ i j. squared f (x0 + i) (y0 + j)) 65025 (x1 - x0) (y1 - y0) (λ i j l m. squares (x0 + i) (y0 + j) (omega (arith, spans)) (omega (arith, spans))));
+            bright =
+                omega (arith, S-is, box-le (λ i j. f (x0 + i) (y0 + j)) 255 (x1 - x0) (y1 - y0) (λ i j l m. bytes _ _ (across i l) (down j m)));
+            squares =
+                omega (arith, Q-is, box-le (λ i j. squared f (x0 + i) (y0 + j)) 65025 (x1 - x0) (y1 - y0) (λ i j l m. squares _ _ (across i l) (down j m)));
             above = rw (S-is, Q-is) (mean-square (λ i j. f (x0 + i) (y0 + j)) (x1 - x0) (y1 - y0) c0);
           }
 
@@ -142,18 +149,15 @@ module _
       window-sum : (e : ℕ → ℕ → ℕ) → rectSum e x0 y0 (x1 - x0) (y1 - y0) ≡ foldBox _+_ e box
       unfolding box
       window-sum e =
-          let r1 : x1 - x0 ≡ box .right + 1 - box .left = span-long (config .radius) (g .width) x x0 x1 a p0 p1 in
-          let r2 : y1 - y0 ≡ box .bottom + 1 - box .top = span-long (config .radius) (g .height) y y0 y1 b q0 q1 in
-          rw (r1, r2, p0, q0) (sym (fold-box-sum e box (window-some (config .radius) (g .width) (g .height) x y a b)))
+          rw (p0, p1, q0, q1) (sym (fold-box-sum e box (window-some (config .radius) (g .width) (g .height) x y a b)))
 
       same-threshold : threshold config S Q ((x1 - x0) * (y1 - y0)) ≡ thresholdAtPixel config (g .width) (g .height) (picture d g) x y
       unfolding thresholdAtPixel f box
       same-threshold =
           let S′ : S ≡ sum f box = S-is ∙ window-sum f in
           let Q′ : Q ≡ sumSquares f box = Q-is ∙ window-sum (squared f) in
-          let r1 : x1 - x0 ≡ box .right + 1 - box .left = span-long (config .radius) (g .width) x x0 x1 a p0 p1 in
-          let r2 : y1 - y0 ≡ box .bottom + 1 - box .top = span-long (config .radius) (g .height) y y0 y1 b q0 q1 in
-          let c′ : (x1 - x0) * (y1 - y0) ≡ count box = rw (r1, r2) (sym (count-is box (window-some (config .radius) (g .width) (g .height) x y a b))) in
+          let some = window-some (config .radius) (g .width) (g .height) x y a b in
+          let c′ : (x1 - x0) * (y1 - y0) ≡ count box = rw (p0, p1, q0, q1) (sym (count-is box some)) in
           rw (S′, Q′, c′)
 
     pub window-sums : WindowSums d g ws base config x y x0 x1 y0 y1

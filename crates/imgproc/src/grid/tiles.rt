@@ -1,5 +1,6 @@
 // The five numbers of each tile, gathered into a u64 workspace from an offset on, and joined over a neighbourhood.
 use crate::grid::config::TileThresholdConfig;
+use crate::reach;
 use image::Geometry;
 use image::Layout;
 ghost use mathlib.Core.Path.{_≡_};
@@ -7,7 +8,7 @@ ghost use Prim.Native.Nat.{_+_, _-_, _*_, _^_, _≤_, _<_, min, max};
 ghost use lib.ListN.{length, getD};
 ghost use Rattle.image.specs.Layout.{Kept, sideLimit};
 ghost use Rattle.image.specs.Plane.{pixel};
-ghost use Rattle.imgproc.specs.Reach.{ceiling, low, high};
+ghost use Rattle.imgproc.specs.Reach.{ceiling};
 ghost use Rattle.imgproc.specs.Grid.{tilesX, tilesY};
 ghost use Rattle.imgproc.specs.Tiles.{Sized, numbersIn, lineNumbers, tile, joined, joinOver, entry, Stores, GatherReady, Gathers};
 ghost use Rattle.imgproc.specs.Tiles.{SmallRow, SmallGrid, joinedRows, joinedAround};
@@ -218,24 +219,6 @@ fn join_row(workspace: &[u64], row: usize, from: usize, to: usize) -> TileNumber
     numbers
 }
 
-// The first and the last index within `radius` of i, among n.
-fn first_near(i: usize, radius: usize) -> usize
-    ensures { λ r. ⌜ r ≡ low radius i ⌝ }
-{
-    if radius < i { i - radius } else { 0 }
-}
-
-fn last_near(i: usize, radius: usize, n: usize) -> usize
-    requires { ⌜ i < n ⌝ }
-    ensures { λ r. ⌜ r ≡ high radius n i ⌝ }
-{
-    if n - 1 - i <= radius {
-        n - 1
-    } else {
-        i + radius
-    }
-}
-
 // The numbers of the tiles from..=to of the tile rows first..=last, joined.
 fn join_rows(
     workspace: &[u64],
@@ -272,9 +255,9 @@ pub(crate) fn join_around(
     requires { ⌜ SmallGrid at «tiles_x» «tiles_y» (now workspace) × (i < «tiles_x») × (j < «tiles_y») ⌝ }
     ensures { λ r. ⌜ r ≡ joinedAround radius «tiles_x» «tiles_y» at (now (workspace .entry)) i j ⌝ }
 {
-    let from = first_near(i, radius);
-    let to = last_near(i, radius, tiles_x);
-    let first = first_near(j, radius);
-    let last = last_near(j, radius, tiles_y);
+    let from = reach::low(i, radius);
+    let to = reach::high(i, radius, tiles_x);
+    let first = reach::low(j, radius);
+    let last = reach::high(j, radius, tiles_y);
     join_rows(workspace, at, tiles_x, from, to, first, last)
 }

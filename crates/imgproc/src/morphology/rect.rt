@@ -106,7 +106,17 @@ pub(crate) fn morph_rect_into(
     ensures { λ r. ⌜ Morphed tally (now (ws .entry)) from to spare «kernel_width» «kernel_height» width height least r (now (ws .exit)) ⌝ }
 {
     let mut t = tally;
-    sweep_rows(&mut t, ws, from, to, spare, kernel_width, width, height, least);
+    sweep_rows(
+        &mut t,
+        ws,
+        from,
+        to,
+        spare,
+        kernel_width,
+        width,
+        height,
+        least,
+    );
     sweep_columns(
         &mut t,
         ws,
@@ -140,10 +150,50 @@ fn morph_rect_twice(
     ensures { λ r. ⌜ PairMorphed tally (now (ws .entry)) from to spare «kernel_width» «kernel_height» width height first second r (now (ws .exit)) ⌝ }
 {
     let mut t = tally;
-    sweep_rows(&mut t, ws, from, to, spare, kernel_width, width, height, first);
-    sweep_columns(&mut t, ws, to, to, spare, kernel_height, width, height, first);
-    sweep_rows(&mut t, ws, to, to, spare, kernel_width, width, height, second);
-    sweep_columns(&mut t, ws, to, to, spare, kernel_height, width, height, second);
+    sweep_rows(
+        &mut t,
+        ws,
+        from,
+        to,
+        spare,
+        kernel_width,
+        width,
+        height,
+        first,
+    );
+    sweep_columns(
+        &mut t,
+        ws,
+        to,
+        to,
+        spare,
+        kernel_height,
+        width,
+        height,
+        first,
+    );
+    sweep_rows(
+        &mut t,
+        ws,
+        to,
+        to,
+        spare,
+        kernel_width,
+        width,
+        height,
+        second,
+    );
+    sweep_columns(
+        &mut t,
+        ws,
+        to,
+        to,
+        spare,
+        kernel_height,
+        width,
+        height,
+        second,
+    );
     t
 }
 

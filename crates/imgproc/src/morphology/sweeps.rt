@@ -6,10 +6,9 @@ use crate::morphology::tally::chosen;
 use crate::morphology::tally::counted;
 use crate::morphology::tally::greater;
 use crate::morphology::tally::lesser;
-ghost use mathlib.Core.Path.{_≡_};
+use crate::reach;
 ghost use Prim.Native.Nat.{_+_, _*_, _<_, _≤_};
 ghost use lib.ListN.{length, getD};
-ghost use Rattle.imgproc.specs.Reach.{low, high};
 ghost use Rattle.imgproc.specs.Tallies.{HasRoom};
 ghost use Rattle.imgproc.specs.Compared.{Compares, extreme};
 ghost use Rattle.imgproc.specs.Sweeps.{lane, Apart, Rowed, LanesReady, LanesMet, PassReady, JoinReady, ForwardPassed, BackwardPassed, JoinPassed, LinesReady, LinesSwept, TurnReady, Turned, SweepReady, RowsSwept};
@@ -122,21 +121,6 @@ fn backward_pass(
     t
 }
 
-// low = max(0, i - r)
-fn low_of(i: usize, r: usize) -> usize
-    ensures { λ n. ⌜ n ≡ low r i ⌝ }
-{
-    if i < r { 0 } else { i - r }
-}
-
-// high = min(i + r, n - 1), in a line of n; i + r is never worked out where it is past the end
-fn high_of(i: usize, r: usize, n: usize) -> usize
-    requires { ⌜ i < n ⌝ }
-    ensures { λ m. ⌜ m ≡ high r n i ⌝ }
-{
-    if n - 1 - i < r { n - 1 } else { i + r }
-}
-
 // Joining: the backward extreme at low meets the forward one at high.
 fn join_pass(
     tally: Tally,
@@ -157,8 +141,8 @@ fn join_pass(
     let mut y = 0;
     let mut at = 0;
     while y < height {
-        let low = low_of(y, radius) * width;
-        let high = high_of(y, radius, height) * width;
+        let low = reach::low(y, radius) * width;
+        let high = reach::high(y, radius, height) * width;
         t = meet_lanes(t, ws, suffix + low, prefix + high, to + at, width, least);
         at += width;
         y += 1;

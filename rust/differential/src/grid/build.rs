@@ -1,4 +1,4 @@
-//! `tile_grid_build` against the Rust's `TileThresholdGrid::build`.
+//! Compares `tile_grid_build` with the Rust's `TileThresholdGrid::build`.
 
 use crate::case::{listed, Buffer, Case, Expected, Left, Outcome, Outs, Places};
 use crate::corner::{self, Corner, LARGEST_OFFSET};
@@ -16,7 +16,7 @@ pub struct Build {
     pub src: Vec<u8>,
     pub g: Geometry,
     pub config: TileThresholdConfig,
-    /// As C sees it: 0 Midrange, 1 Sauvola, any other refused.
+    /// The method as C passes it: 0 Midrange, 1 Sauvola, any other refused.
     pub method: u32,
     pub k: f64,
     pub dynamic_range: f64,
@@ -26,7 +26,7 @@ pub struct Build {
     seed: u64,
 }
 
-/// The two numbers that a build gives.
+/// Names the two numbers that a build gives.
 fn named(tiles_x: usize, tiles_y: usize) -> Outs {
     vec![("tiles_x", tiles_x as u64), ("tiles_y", tiles_y as u64)]
 }
@@ -36,7 +36,7 @@ impl Build {
         ours::tiles(self.g.width, self.g.height, self.config.tile_width, self.config.tile_height)
     }
 
-    /// Buffers of exact length.
+    /// Makes a case with buffers of exact length.
     pub fn exact(src: Vec<u8>, g: Geometry, config: TileThresholdConfig, seed: u64) -> Self {
         let (method, k, dynamic_range) = match config.method {
             TileThresholdMethod::Midrange => (0, f64::NAN, f64::NAN),
@@ -48,13 +48,13 @@ impl Build {
         case
     }
 
-    /// The expected number, else the Rust's grid.
+    /// Returns the expected number, or else the Rust's grid and the expected thresholds.
     fn decided(&self) -> Result<(theirs::TileThresholdGrid, Vec<u8>), u32> {
         let view = rust::view(&self.src, self.g)?;
         let method = match self.method {
             0 => theirs::TileThresholdMethod::Midrange,
             1 => theirs::TileThresholdMethod::Sauvola { k: self.k, dynamic_range: self.dynamic_range },
-            // The Rust's enum has no other method; the C interface gives the number of a bad setting.
+            // The Rust's enum has no other method; the C interface refuses one as a bad setting.
             _ => return Err(7),
         };
         let offset = self.config.threshold_offset;
@@ -76,7 +76,7 @@ impl Build {
         }
         let mut thresholds = grid.thresholds().to_vec();
         if offset > LARGEST_OFFSET {
-            // By document 01: base and offset are added without loss, then clipped.
+            // By document 01, base and offset are added without loss and then clipped.
             for base in &mut thresholds {
                 *base = (i32::from(*base) + i32::from(offset)).clamp(0, 255) as u8;
             }

@@ -1,4 +1,4 @@
-//! Settings and pictures for grids.
+//! Makes settings and pictures for grids.
 
 use super::build::Build;
 use crate::corner::{LARGEST_OFFSET, LARGEST_RADIUS};
@@ -28,7 +28,7 @@ fn any_method(rng: &mut Rng) -> TileThresholdMethod {
     TileThresholdMethod::Sauvola { k, dynamic_range }
 }
 
-/// Settings for a picture of these sides, with few enough tiles that wide neighbourhoods stay cheap.
+/// Returns settings for a picture of these sides, with few enough tiles that wide neighbourhoods stay cheap.
 pub fn settings(rng: &mut Rng, width: usize, height: usize) -> TileThresholdConfig {
     let tile = |rng: &mut Rng, side: usize| match rng.below(8) {
         0 => rng.pick(&EDGES).max(side.div_ceil(12)),
@@ -56,7 +56,7 @@ pub fn settings(rng: &mut Rng, width: usize, height: usize) -> TileThresholdConf
     }
 }
 
-/// Settings at every corner and every combination of corners.
+/// Returns settings at every corner and every combination of corners.
 pub fn at_corners(usual: TileThresholdConfig, width: usize, height: usize) -> Vec<TileThresholdConfig> {
     let few = (width.div_ceil(3), height.div_ceil(2));
     let sides = [few, (width + 1, height + 1), (usize::MAX, few.1), (few.0, usize::MAX), (usize::MAX, usize::MAX)];
@@ -119,7 +119,7 @@ pub fn fixed(run: &mut Run, plan: &Plan) -> Checked {
             })?;
         }
     }
-    // Every pair of samples as minimum and maximum of one tile.
+    // Runs every pair of samples as minimum and maximum of one tile.
     for low in 0..=255 {
         for high in low..=255 {
             for method in METHODS {
@@ -146,7 +146,7 @@ pub fn fixed(run: &mut Run, plan: &Plan) -> Checked {
     Ok(())
 }
 
-/// Every pair of patterns as k and dynamic_range, over a picture with a spread and over ones without.
+/// Runs every pair of patterns as k and dynamic_range, over a picture with a spread and over ones without.
 fn of_each_pair(run: &mut Run, usual: TileThresholdConfig) -> Checked {
     for (k, dynamic_range) in patterns::pairs() {
         let config = TileThresholdConfig { method: TileThresholdMethod::Sauvola { k, dynamic_range }, ..usual };
@@ -157,7 +157,7 @@ fn of_each_pair(run: &mut Run, usual: TileThresholdConfig) -> Checked {
     Ok(())
 }
 
-/// Every corner of the settings over small pictures, of which the darkest and the lightest give the end bases.
+/// Runs every corner of the settings over small pictures: noise, black and white.
 fn small_at_corners(run: &mut Run, usual: TileThresholdConfig) -> Checked {
     for (width, height) in [(1, 1), (7, 5), (40, 30)] {
         let g = Geometry::packed(width, height);
@@ -170,7 +170,7 @@ fn small_at_corners(run: &mut Run, usual: TileThresholdConfig) -> Checked {
     Ok(())
 }
 
-/// The largest picture with usual tiles, and as one tile with the largest sums.
+/// Runs the largest picture with usual tiles, and as one tile with the largest sums.
 fn largest_at_corners(run: &mut Run, usual: TileThresholdConfig) -> Checked {
     let (src, g) = largest(11);
     run.case(&Build::exact(src, g, usual, 12))?;

@@ -1,4 +1,4 @@
-//! `threshold_at`, `is_skip` and `row_all_skip` against the Rust's grid.
+//! Compares `threshold_at`, `is_skip` and `row_all_skip` with the Rust's grid.
 
 use super::make::{at_corners, settings};
 use crate::case::{listed, Buffer, Case, Expected, Left, Outcome, Places};
@@ -29,13 +29,13 @@ struct Query {
     tiles: Vec<u8>,
     x: usize,
     y: usize,
-    /// What the byte to be written holds before.
+    /// The value of the byte to be written before the call.
     value: u8,
-    /// The grid that sizes and tiles were taken from, where neither was changed since.
+    /// The grid from which sizes and tiles were taken, if neither was changed since.
     rust: Option<Rc<theirs::TileThresholdGrid>>,
 }
 
-/// The Rust's grid of a picture with these settings.
+/// Returns the Rust's grid of a picture with these settings.
 fn built(src: &[u8], g: Geometry, config: TileThresholdConfig) -> theirs::TileThresholdGrid {
     let method = match config.method {
         TileThresholdMethod::Midrange => theirs::TileThresholdMethod::Midrange,
@@ -54,7 +54,8 @@ fn built(src: &[u8], g: Geometry, config: TileThresholdConfig) -> theirs::TileTh
 }
 
 impl Query {
-    /// At the first pixel of the Rust's grid of a picture; `skipped` gives the byte of each skipped tile, any but 0.
+    /// Makes a query for the first pixel of the Rust's grid of a picture. `skipped` gives the byte of each skipped
+    /// tile, any but 0.
     fn new(
         call: Call, src: &[u8], g: Geometry, config: TileThresholdConfig, mut skipped: impl FnMut() -> u8,
     ) -> Self {
@@ -74,7 +75,7 @@ impl Query {
         Self { call, grid, tiles, x: 0, y: 0, value: 0, rust: Some(Rc::new(built)) }
     }
 
-    /// The number and the value by document 01, in its order: sizes 7, buffer 10, place 9.
+    /// Returns the number or the value by document 01, in its order: sizes 7, buffer 10, place 9.
     fn decided(&self) -> Result<u8, u32> {
         let Grid { width, height, tile_width, tile_height, tiles_x, tiles_y } = self.grid;
         let sides = (1..=4096).contains(&width) && (1..=4096).contains(&height);
@@ -201,7 +202,7 @@ pub fn random(run: &mut Run, rng: &mut Rng, call: Call) -> Checked {
             3 => grid.tile_height = rng.pick(&EDGES),
             4 => grid.tiles_x = grid.tiles_x.wrapping_add(rng.below(3)).wrapping_sub(1),
             5 => grid.tiles_y = grid.tiles_y.wrapping_add(rng.below(3)).wrapping_sub(1),
-            // As many tiles, turned.
+            // As many tiles, with rows and columns exchanged.
             6 => (grid.tiles_x, grid.tiles_y) = (grid.tiles_y, grid.tiles_x),
             _ => tiles.truncate(rng.below(tiles.len())),
         }
@@ -211,7 +212,7 @@ pub fn random(run: &mut Run, rng: &mut Rng, call: Call) -> Checked {
     run.case(&case)
 }
 
-/// Grids at the corners, of small pictures and of the largest.
+/// Runs grids at the corners, of small pictures and of the largest.
 pub fn fixed(run: &mut Run, plan: &Plan, call: Call) -> Checked {
     let usual = TileThresholdConfig::default();
     for (width, height) in [(1, 1), (7, 5), (40, 30)] {
@@ -227,7 +228,8 @@ pub fn fixed(run: &mut Run, plan: &Plan, call: Call) -> Checked {
     Ok(())
 }
 
-/// Asks at the ends of the picture and just outside. Its lower half is made flat, so that tiles are skipped there.
+/// Runs queries at the ends of the picture and just outside. Its lower half is made flat, so that tiles are skipped
+/// there.
 fn ends(run: &mut Run, call: Call, mut src: Vec<u8>, g: Geometry, config: TileThresholdConfig) -> Checked {
     src[g.height / 2 * g.stride..].fill(100);
     let case = Query::new(call, &src, g, config, || 1);

@@ -1,4 +1,4 @@
-//! `validate_layout` against the Rust's `Gray8View::new`.
+//! Compares `validate_layout` with the Rust's `Gray8View::new`.
 
 use crate::case::{Case, Expected, Outcome, Places};
 use crate::corner::{self, Corner};
@@ -12,10 +12,11 @@ use imgproc::{Geometry, Refusal};
 use std::sync::OnceLock;
 
 pub const NAME: &str = "validate_layout";
-/// Lengths that no slice here has: the Rust cannot be asked, document 01's words are held against.
+/// The subject for lengths that no slice here has: the Rust cannot be asked, so the answer is compared with document
+/// 01's.
 pub const LONG: &str = "validate_layout, by document 01";
 
-/// The longest slice that the Rust is asked about. Only its length is looked at, so its pages are never touched.
+/// The longest slice that the Rust is asked about. Only its length matters, so its pages are never touched.
 const LONGEST: usize = 1 << 28;
 
 fn longest() -> &'static [u8] {
@@ -87,7 +88,7 @@ impl Case for Layout {
     }
 }
 
-/// Lengths around the needed one, and any.
+/// Returns a length around the needed one, or any.
 fn len_for(rng: &mut Rng, g: Geometry) -> usize {
     let needed = g.stride.wrapping_mul(g.height.wrapping_sub(1)).wrapping_add(g.width);
     match rng.below(6) {
@@ -140,7 +141,7 @@ pub fn random_long(run: &mut Run, rng: &mut Rng) -> Checked {
     run.case(&case)
 }
 
-/// Every combination of numbers at which something changes, with every length around the needed one.
+/// Runs every combination of numbers at which something changes, with every length around the needed one.
 pub fn fixed(run: &mut Run, _: &Plan) -> Checked {
     for width in EDGES {
         for height in EDGES {

@@ -1,4 +1,4 @@
-//! `get`, `set` and `row` against the Rust's views.
+//! Compares `get`, `set` and `row` with the Rust's views.
 
 use crate::case::{listed, Buffer, Case, Expected, Left, Outcome, Places};
 use crate::corner::{self, Corner};
@@ -26,14 +26,14 @@ struct Asked {
     g: Geometry,
     x: usize,
     y: usize,
-    /// What `set` writes, and what the number of `get` holds before.
+    /// The value that `set` writes, and that the number of `get` holds before the call.
     value: u8,
-    /// Where `row` is copied to.
+    /// The buffer to which `row` is copied.
     out: Vec<u8>,
 }
 
 impl Asked {
-    /// The expected number, else the Rust's value, picture or row.
+    /// Returns the expected number, or else the Rust's value, picture or row.
     fn decided(&self) -> Result<(u8, Cow<'_, [u8]>), u32> {
         let view = rust::view(&self.data, self.g)?;
         let inside = view.try_get(self.x, self.y).is_some();
@@ -58,7 +58,7 @@ impl Asked {
         }
     }
 
-    /// The row handed out: the caller's own bytes at the right place, or the check call's refusal.
+    /// Checks the returned row: it is the caller's own bytes at the right place, or the check call refuses.
     fn handed_out(&self) -> Result<(), String> {
         let number = match rust::view(&self.data, self.g) {
             Err(number) => number,
@@ -196,7 +196,7 @@ impl Case for Asked {
     }
 }
 
-/// A column or row: mostly inside, often at the edge.
+/// Returns a column or row: mostly inside, often at the edge.
 fn place(rng: &mut Rng, side: usize) -> usize {
     match rng.below(8) {
         0 => 0,
@@ -226,7 +226,7 @@ pub fn random(run: &mut Run, rng: &mut Rng, call: Call) -> Checked {
     run.case(&Asked { call, data, g, x, y, value: rng.byte(), out })
 }
 
-/// The ends of the largest picture.
+/// Runs the ends of the largest picture.
 pub fn fixed(run: &mut Run, plan: &Plan, call: Call) -> Checked {
     if plan.large {
         let (data, g) = largest(16);

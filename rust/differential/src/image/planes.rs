@@ -1,4 +1,4 @@
-//! `pack` and `unpack` against the rows that the Rust's views give.
+//! Compares `pack` and `unpack` with the rows that the Rust's views give.
 
 use crate::case::{listed, Buffer, Case, Expected, Left, Outcome, Places};
 use crate::corner::{self, Corner};
@@ -14,7 +14,7 @@ use std::borrow::Cow;
 
 #[derive(Clone)]
 struct Plane {
-    /// Packs the picture's rows into the workspace, or else the other way.
+    /// If true, the case packs the picture's rows into the workspace; if false, it unpacks them.
     pack: bool,
     picture: Vec<u8>,
     g: Geometry,
@@ -23,7 +23,7 @@ struct Plane {
 }
 
 impl Plane {
-    /// The expected number, else the written buffer afterwards.
+    /// Returns the expected number, or else the written buffer afterwards.
     fn decided(&self) -> Result<Vec<u8>, u32> {
         let view = rust::view(&self.picture, self.g)?;
         if document::plane_outside(self.workspace.len(), self.at, self.g) {
@@ -156,7 +156,7 @@ pub fn random(run: &mut Run, rng: &mut Rng, pack: bool) -> Checked {
         0 => room = at + width * height - 1,
         1 => room = rng.below(room),
         2 => at = rng.pick(&EDGES),
-        // The end of the plane wraps past 64 bits.
+        // The end of the plane is at or past 2^64 - 1, where a plain sum wraps.
         3 => at = usize::MAX - rng.below(width * height + 1),
         4..=6 => spoil(rng, &mut picture, &mut g),
         _ => {}
@@ -165,7 +165,7 @@ pub fn random(run: &mut Run, rng: &mut Rng, pack: bool) -> Checked {
     run.case(&Plane { pack, picture, g, workspace, at })
 }
 
-/// The largest picture.
+/// Runs the largest picture.
 pub fn fixed(run: &mut Run, plan: &Plan, pack: bool) -> Checked {
     if plan.large {
         let (picture, g) = largest(19);

@@ -1,4 +1,4 @@
-//! `reading` against division, opening, grid and threshold of the Rust, one after the other.
+//! Compares `reading` with a chain of the Rust's own calls: division, opening, grid and threshold, one after the other.
 
 use super::shrink;
 use crate::case::{listed, Buffer, Case, Expected, Left, Outcome, Outs, Places};
@@ -24,17 +24,17 @@ pub struct Reading {
     pub dst: Vec<u8>,
     pub d: Geometry,
     pub config: ReadingConfig,
-    /// As C sees it: 0 Midrange, 1 Sauvola, any other refused.
+    /// The method as C passes it: 0 Midrange, 1 Sauvola, any other refused.
     pub method: u32,
     pub k: f64,
     pub dynamic_range: f64,
-    /// The workspaces' lengths.
+    /// The lengths of the two workspaces.
     pub bytes: usize,
     pub words: usize,
     pub seed: u64,
 }
 
-/// What the chain leaves: its counts, and the rows packed.
+/// The result of the chain: its counts, and the packed rows.
 struct Chained {
     dark: u64,
     light: u64,
@@ -42,13 +42,13 @@ struct Chained {
     marked: Vec<u8>,
 }
 
-/// The four numbers that a reading gives.
+/// Names the four numbers that a reading gives.
 fn named(counts: ReadingCounts) -> Outs {
     let ReadingCounts { dark, light, skipped, comparisons } = counts;
     vec![("dark", dark), ("light", light), ("skipped", skipped), ("comparisons", comparisons)]
 }
 
-/// Tiles of a picture, by document 01's ceilings; tile sides are not 0.
+/// Returns the number of tiles of a picture, by document 01's ceilings; tile sides are not 0.
 fn tiles(width: usize, height: usize, grid: &TileThresholdConfig) -> usize {
     width.div_ceil(grid.tile_width) * height.div_ceil(grid.tile_height)
 }
@@ -60,14 +60,14 @@ pub fn room(width: usize, height: usize, grid: &TileThresholdConfig) -> (usize, 
 }
 
 impl Reading {
-    /// Packed, with exact lengths.
+    /// Makes a case of packed pictures with exact lengths.
     pub fn packed(config: ReadingConfig, src: Vec<u8>, width: usize, height: usize, seed: u64) -> Self {
         let g = Geometry::packed(width, height);
         let dst = u8::noise(src.len(), !seed);
         Self::exact(config, (src, g), (dst, g), seed)
     }
 
-    /// Workspaces of exact length for the source.
+    /// Makes a case whose workspaces have the exact length for the source.
     pub fn exact(config: ReadingConfig, src: (Vec<u8>, Geometry), dst: (Vec<u8>, Geometry), seed: u64) -> Self {
         let (method, k, dynamic_range) = match config.grid.method {
             TileThresholdMethod::Midrange => (0, f64::NAN, f64::NAN),
@@ -93,13 +93,13 @@ impl Reading {
             tile_width: grid.tile_width,
             tile_height: grid.tile_height,
             neighborhood_radius: grid.neighborhood_radius,
-            // A reading looks at the skips only, which have no offset in them.
+            // A reading uses only the skips, which do not depend on the offset.
             threshold_offset: grid.threshold_offset.min(LARGEST_OFFSET),
             contrast_floor: grid.contrast_floor,
             method: match self.method {
                 0 => theirs::TileThresholdMethod::Midrange,
                 1 => theirs::TileThresholdMethod::Sauvola { k: self.k, dynamic_range: self.dynamic_range },
-                // The Rust's enum has no other method; the C interface gives the number of a bad setting.
+                // The Rust's enum has no other method; the C interface refuses one as a bad setting.
                 _ => return Err(7),
             },
         })
@@ -108,18 +108,18 @@ impl Reading {
     fn sauvola(&self) -> SauvolaConfig {
         let sauvola = self.config.sauvola;
         SauvolaConfig {
-            // Beyond, the clipped window is the whole picture, as it is there.
+            // At this radius the clipped window is the whole picture already.
             radius: sauvola.radius.min(LARGEST_RADIUS),
             k_milli: sauvola.k_milli,
             dynamic_range: sauvola.dynamic_range,
-            // Apart, so that dark and light can be counted whatever bytes are asked for.
+            // Two different values, so that dark and light can be counted whatever bytes the settings have.
             dark_value: 1,
             light_value: 0,
         }
     }
 
-    /// The expected number, else what the Rust's calls leave. Document 01 puts the layouts and the sizes first and the
-    /// workspaces last; the settings between them come in the order of the calls.
+    /// Returns the expected number, or else what the Rust's calls leave. Document 01 puts the layouts and the sizes
+    /// first and the workspaces last; the settings between them come in the order of the calls.
     fn decided(&self) -> Result<Chained, u32> {
         let src = rust::view(&self.src, self.s)?;
         let mut copy = self.dst.clone();
@@ -164,7 +164,7 @@ impl Reading {
         Ok(chained)
     }
 
-    /// The rows of the destination; every other byte is to be as it was lent.
+    /// Returns the expected destination: these rows, and every other byte as it was.
     fn painted(&self, marked: &[u8]) -> Vec<u8> {
         let mut painted = self.dst.clone();
         for (y, row) in marked.chunks(self.d.width).enumerate() {
@@ -173,7 +173,7 @@ impl Reading {
         painted
     }
 
-    /// Two sweeps of the closing with the element and two of the opening with its kernel.
+    /// Returns the comparisons of two passes with the element and two with the opening's kernel.
     fn comparisons(&self) -> Result<u64, String> {
         let (w, h) = (self.s.width, self.s.height);
         let closing = plain::comparisons(w, h, self.config.division.structuring_element, 2)?;

@@ -1,4 +1,4 @@
-//! Settings and pictures for readings.
+//! Makes settings and pictures for readings.
 
 use super::chain::{room, Reading};
 use crate::corner::{kernels, LARGEST_OFFSET, LARGEST_RADIUS};
@@ -25,7 +25,7 @@ fn opening(rng: &mut Rng) -> usize {
     }
 }
 
-/// Now and then two settings are wrong at once, so that their order shows.
+/// Makes a setting wrong. Now and then the caller does it twice, so that the order of the refusals shows.
 fn wrong(rng: &mut Rng, case: &mut Reading) {
     match rng.below(9) {
         0 => case.config.division.structuring_element = rng.pick(&[0, 1, 2, 4, 30, usize::MAX - 1]),
@@ -46,7 +46,7 @@ fn wrong(rng: &mut Rng, case: &mut Reading) {
     }
 }
 
-/// The columns, or the rows, from some place on given one value.
+/// Gives the columns, or the rows, from some place on one value.
 fn flatten(rng: &mut Rng, (data, g): &mut (Vec<u8>, Geometry)) {
     let (from_x, from_y) = if rng.one_in(2) { (rng.below(g.width), 0) } else { (0, rng.below(g.height)) };
     let value = rng.byte();
@@ -69,12 +69,13 @@ pub fn random(run: &mut Run, rng: &mut Rng) -> Checked {
         1 => config.grid.contrast_floor = 0,
         _ => {}
     }
-    // The Rust's tile sides are any but 0, and so are those of the settings made here.
+    // Tile sides of 0 are refused: `wrong` sets them.
     config.grid.tile_width = config.grid.tile_width.max(1);
     config.grid.tile_height = config.grid.tile_height.max(1);
     let (mut src, dst) = (picture(rng, width, height), good(rng, width, height));
     if rng.one_in(2) {
-        // Flat on one side and small tiles by themselves, so that some are skipped and others are not.
+        // Makes the picture flat on one side and the tiles small and without neighbours, so that some are skipped and
+        // others are not.
         flatten(rng, &mut src);
         config.grid.tile_width = config.grid.tile_width.min(rng.within(width.div_ceil(12), width));
         config.grid.tile_height = config.grid.tile_height.min(rng.within(height.div_ceil(12), height));
@@ -147,7 +148,7 @@ pub fn fixed(run: &mut Run, plan: &Plan) -> Checked {
     Ok(())
 }
 
-/// Every pair of patterns as the grid's k and dynamic_range: no pixel depends on them, only whether they are refused.
+/// Runs every pair of patterns as the grid's k and dynamic_range. They decide only whether the call is refused.
 fn of_each_pair(run: &mut Run, mut config: ReadingConfig) -> Checked {
     for (k, dynamic_range) in patterns::pairs() {
         config.grid.method = TileThresholdMethod::Sauvola { k, dynamic_range };
@@ -156,7 +157,7 @@ fn of_each_pair(run: &mut Run, mut config: ReadingConfig) -> Checked {
     Ok(())
 }
 
-/// Every corner of the settings over small pictures.
+/// Runs every corner of the settings over small pictures.
 fn small_at_corners(run: &mut Run, usual: ReadingConfig) -> Checked {
     for (width, height) in [(1, 1), (7, 5), (20, 30)] {
         let src = u8::noise(width * height, 11);
@@ -174,7 +175,7 @@ fn small_at_corners(run: &mut Run, usual: ReadingConfig) -> Checked {
     Ok(())
 }
 
-/// The largest picture with the largest of everything, the opening's kernel just above it.
+/// Runs the largest picture with every setting at its largest, but with the opening's kernel just above the picture.
 fn largest_at_corners(run: &mut Run, mut config: ReadingConfig) -> Checked {
     let (src, g) = largest(13);
     [config.opening_kernel, config.division.structuring_element] = kernels(g.width, g.height);

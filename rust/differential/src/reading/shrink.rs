@@ -1,4 +1,4 @@
-//! Simpler readings, for the smallest input that still differs.
+//! Makes simpler readings, for the search for the smallest input that still differs.
 
 use super::chain::Reading;
 use crate::document;
@@ -16,7 +16,7 @@ pub fn smaller(case: &Reading) -> Vec<Reading> {
     list
 }
 
-/// Parts of the picture, packed.
+/// Returns readings of packed parts of the picture.
 fn cut(case: &Reading) -> Vec<Reading> {
     let Geometry { width, height, stride } = case.s;
     let config = with_method(case);
@@ -37,7 +37,7 @@ fn cut(case: &Reading) -> Vec<Reading> {
     list
 }
 
-/// Of a small picture, each pixel made darker.
+/// Returns readings of a small picture with one pixel darker.
 fn darker(case: &Reading) -> Vec<Reading> {
     let Geometry { width, height, stride } = case.s;
     let mut list = Vec::new();
@@ -53,7 +53,7 @@ fn darker(case: &Reading) -> Vec<Reading> {
     list
 }
 
-/// Each setting made less.
+/// Returns settings with one of them simpler.
 fn simpler(c: ReadingConfig) -> Vec<ReadingConfig> {
     let mut list = vec![c; 5];
     list[0].division.structuring_element = 3.min(c.division.structuring_element);
@@ -61,12 +61,12 @@ fn simpler(c: ReadingConfig) -> Vec<ReadingConfig> {
     list[2].grid.neighborhood_radius /= 2;
     list[3].grid.contrast_floor /= 2;
     list[4].sauvola.radius = c.sauvola.radius.div_ceil(2);
-    // As text, since a NaN among the settings equals nothing.
+    // Compares them as text, since a NaN among the settings equals nothing.
     list.retain(|next| format!("{next:?}") != format!("{c:?}"));
     list
 }
 
-/// The settings, with the method that stands beside them.
+/// Returns the settings with the method that the case has beside them.
 fn with_method(case: &Reading) -> ReadingConfig {
     let method = match case.method {
         0 => TileThresholdMethod::Midrange,

@@ -1,4 +1,4 @@
-//! Simpler cases of a picture call, for the smallest input that still differs.
+//! Makes simpler cases of a picture call, for the search for the smallest input that still differs.
 
 use super::{Operator, Through};
 use crate::document;
@@ -6,7 +6,7 @@ use crate::layouts::needed;
 use crate::rng::Word;
 use imgproc::Geometry;
 
-/// What a case has beyond its pixels: padding, tails, and the workspace's distance from the needed length.
+/// The slack of a case: padding, tails, and the workspace's distance from the needed length.
 #[derive(Clone, Copy, Default, PartialEq, Eq)]
 struct Slack {
     src_padding: usize,
@@ -32,7 +32,7 @@ fn size(g: Geometry) -> (usize, usize) {
     (g.width, g.height)
 }
 
-/// Of good layouts: fewer rows and columns, less slack, darker pixels.
+/// Simplifies good layouts: fewer rows and columns, less slack, darker pixels.
 fn reshaped<O: Operator>(case: &Through<O>) -> Vec<Through<O>> {
     let (w, h) = size(case.s);
     let mut shapes = vec![(0, 0, w / 2, h), (0, 0, w, h / 2)];
@@ -69,7 +69,7 @@ fn reshaped<O: Operator>(case: &Through<O>) -> Vec<Through<O>> {
 fn slack<O: Operator>(case: &Through<O>) -> Slack {
     let room = case.op.room(case.s.width, case.s.height);
     Slack {
-        // One row alone may have any stride; a few bytes show as much.
+        // A picture of one row may have any stride; a few bytes of padding show as much.
         src_padding: (case.s.stride - case.s.width).min(64),
         src_tail: case.src.len() - needed(case.s),
         dst_padding: (case.d.stride - case.d.width).min(64),
@@ -79,7 +79,7 @@ fn slack<O: Operator>(case: &Through<O>) -> Slack {
     }
 }
 
-/// The case over a part of its picture.
+/// Returns the case over a part of its picture.
 fn cut<O: Operator>(case: &Through<O>, x: usize, y: usize, width: usize, height: usize, slack: Slack) -> Through<O> {
     let s = Geometry { width, height, stride: width + slack.src_padding };
     let d = Geometry { width, height, stride: width + slack.dst_padding };
@@ -93,7 +93,7 @@ fn cut<O: Operator>(case: &Through<O>, x: usize, y: usize, width: usize, height:
     Through { op: case.op.clone(), src, s, dst, d, room, seed: case.seed }
 }
 
-/// Of wrong layouts or differing sizes: each number and each length made less.
+/// Simplifies wrong layouts or differing sizes: makes one number or one length smaller.
 fn relaid<O: Operator>(case: &Through<O>) -> Vec<Through<O>> {
     let mut list = Vec::new();
     for cut in [|n: usize| n / 2, |n: usize| n.saturating_sub(1)] {

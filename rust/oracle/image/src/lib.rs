@@ -1,3 +1,3 @@
-//! The published Rust, read at build time with every function unchanged: see build.rs.
+//! The published Rust with every function unchanged. build.rs reads it at build time.
 
 include!(concat!(env!("OUT_DIR"), "/lib.rs"));

@@ -1,5 +1,6 @@
 -- `flatten` packs, closes and divides; the copy is never refused. Assumes nothing.
 use Rattle.image.specs.Copy.{copiedAnswer}
+use mathlib.Core.Logic.{inl}
 use borrow.Author.Needs.{needs}
 use denote.Ref.{now}
 use Rattle.imgproc.proofs.illumination.Runs.{close-ready, flattened}
@@ -23,7 +24,12 @@ close-rect-into-requires c κs =
     close-ready (a .tally) (now (a .src)) (a .geometry) (a .config) (now (a .workspace)) (start .pre) (copiedAnswer (pack .pack .result)) (pack .pack .last .1 .1 .0) (pack .pack .ensures)
 
 divide-plane-requires : tie.Need-divide-plane-requires
-divide-plane-requires c κs = search needs
+divide-plane-requires c κs = record {
+  floor = search needs;
+  pixels = search needs;
+  backgrounds = search needs;
+  apart = record { clear = inl (search needs) };
+}
 
 same-length : tie.Need-same-length
 same-length c = search needs

@@ -15,7 +15,7 @@ use Rattle.imgproc.specs.declared.morphology.tally.Tally.{Tally}
 use Rattle.imgproc.specs.Tallies.{Raised, HasRoom, raised-none, raised-twice, raised-as, room-left}
 use Rattle.imgproc.specs.Sweeps.{lane, Apart, Outside, Rowed, Forwards, Backwards, Joins, Passed, ForwardPassed, BackwardPassed, JoinPassed, LinesSwept}
 use Rattle.imgproc.proofs.morphology.sweeps.Blocks.{forward-first, forward-next, backward-first, backward-next, backward-none, after, reached, seen, order}
-use Rattle.imgproc.proofs.morphology.sweeps.Lanes.{off, apart-within, outside-at, line-order, line-before, Downward, down-more, Upward, up-more}
+use Rattle.imgproc.proofs.morphology.Lanes.{off, apart-within, outside-at, line-order, line-before, Downward, down-more, Upward, up-more}
 
 -- a sample of a plane apart from the one that was written
 pub plane-kept : {w h to : ℕ} {d a : List ℕ} (from x y j : ℕ) → Apart from (w * h) to (w * h) → Outside to (w * h) d a → x < w → y < h → j ≡ from + (y * w + x) → getD a j 0 ≡ lane d from w x y

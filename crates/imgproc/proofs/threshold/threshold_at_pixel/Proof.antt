@@ -1,23 +1,34 @@
 -- `threshold_at_pixel` takes the sums of the pixel's window from four corners of each table. Assumes nothing.
 use borrow.Author.Needs.{needs}
+use Prim.Native.Nat.{ℕ, _+_}
 use native.Mathlib.Omega.{arith}
-use mathlib.Core.Path.{_∙_}
+use mathlib.Core.Path.{ap, _∙_}
 use denote.Ref.{now}
 use Rattle.imgproc.proofs.threshold.Corners.{WindowSums, window-sums}
 use Rattle.imgproc.proofs.threshold.threshold_at_pixel.Statement.{statement}
 use Rattle.imgproc.proofs.threshold.threshold_at_pixel.Tie as tie
 
-abbrev start : tie.After-span-of2 → tie.Start
-start c = c .before .before .before .before .before .before
+abbrev start : tie.After-high2 → tie.Start
+start c = c .before .before .before .before .before .before .before .before
 
--- the window's sums, by its spans
-sums : (c : tie.After-span-of2) → let a = start c .args in WindowSums (now (a .src)) (a .geometry) (now (a .workspace)) (a .at) (a .config) (a .x) (a .y) (c .before .span-of .result .from) (c .before .span-of .result .to) (c .span-of2 .result .from) (c .span-of2 .result .to)
+-- the window's sums, from its corners
+sums : (c : tie.After-high2)
+    → let a = start c .args in
+    WindowSums (now (a .src)) (a .geometry) (now (a .workspace)) (a .at) (a .config) (a .x) (a .y)
+    (c .before .before .before .low .result)
+    (c .before .before .high .result + 1)
+    (c .before .low2 .result)
+    (c .high2 .result + 1)
 sums c =
     let s = start c in
     let a = s .args in
     window-sums (now (a .src)) (a .geometry) (now (a .workspace)) (a .at) (a .config) (s .pre .0)
-    (λ i. omega (arith, c .before .before .before .before .before .shared-slice-known .given i)) (a .x) (a .y) _ _ _ _ (s .pre .1 .0) (s .pre .1 .1)
-    (c .before .span-of .ensures .0) (c .before .span-of .ensures .1) (c .span-of2 .ensures .0) (c .span-of2 .ensures .1)
+    (λ i. omega (arith, c .before .before .before .before .before .before .before .shared-slice-known .given i))
+    (a .x) (a .y) _ _ _ _ (s .pre .1 .0) (s .pre .1 .1)
+    (c .before .before .before .low .ensures)
+    (ap (λ (m : ℕ). m + 1) (c .before .before .high .ensures))
+    (c .before .low2 .ensures)
+    (ap (λ (m : ℕ). m + 1) (c .high2 .ensures))
 
 add-wide : tie.Need-add-wide
 add-wide c = search needs
@@ -31,11 +42,23 @@ mul-squares c = search needs
 add-squares-2 : tie.Need-add-squares-2
 add-squares-2 c = search needs
 
-span-of-requires : tie.Need-span-of-requires
-span-of-requires c κs = search needs
+low-requires : tie.Need-low-requires
+low-requires c κs = search needs
 
-span-of-requires-2 : tie.Need-span-of-requires-2
-span-of-requires-2 c κs = search needs
+high-requires : tie.Need-high-requires
+high-requires c κs = search needs
+
+add-x1 : tie.Need-add-x1
+add-x1 c = search needs
+
+low-requires-2 : tie.Need-low-requires-2
+low-requires-2 c κs = search needs
+
+high-requires-2 : tie.Need-high-requires-2
+high-requires-2 c κs = search needs
+
+add-y1 : tie.Need-add-y1
+add-y1 c = search needs
 
 rect-sum-requires : tie.Need-rect-sum-requires
 rect-sum-requires c κs = sums c .sum-corners
@@ -69,8 +92,12 @@ threshold-at-pixel-spec =
     add-squares
     mul-squares
     add-squares-2
-    span-of-requires
-    span-of-requires-2
+    low-requires
+    high-requires
+    add-x1
+    low-requires-2
+    high-requires-2
+    add-y1
     rect-sum-requires
     rect-sum-requires-2
     sub-count

@@ -1,7 +1,7 @@
 -- `column_core` meets its contract: each column is a lane. Assumes nothing.
 use native.Mathlib.Omega.{arith}
 use Rattle.imgproc.specs.Tallies.{room-part}
-use Rattle.imgproc.proofs.morphology.sweeps.Lanes.{apart-within}
+use Rattle.imgproc.proofs.morphology.Lanes.{apart-within}
 use Rattle.imgproc.proofs.morphology.Planes.{off-within}
 use Rattle.imgproc.proofs.morphology.rect.column_core.Statement.{statement}
 use Rattle.imgproc.proofs.morphology.rect.column_core.Tie as tie

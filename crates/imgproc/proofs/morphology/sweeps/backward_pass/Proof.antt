@@ -9,7 +9,7 @@ use Rattle.imgproc.specs.Reach.{backwardAt}
 use Rattle.imgproc.specs.Compared.{Before}
 use Rattle.imgproc.specs.Sweeps.{lane, Backwards}
 use Rattle.imgproc.proofs.morphology.sweeps.Blocks.{order}
-use Rattle.imgproc.proofs.morphology.sweeps.Lanes.{apart-within, line-order, Upward, up-none, up-room, up-fits, up-all}
+use Rattle.imgproc.proofs.morphology.Lanes.{apart-within, line-order, Upward, up-none, up-room, up-fits, up-all}
 use Rattle.imgproc.proofs.morphology.sweeps.Passes.{backward-copy, backward-meet}
 use borrow.Author.Needs.{needs}
 use Rattle.imgproc.proofs.morphology.sweeps.backward_pass.Statement.{statement}

@@ -3,7 +3,7 @@ use Prim.Native.Nat.{ℕ, _+_, _-_, _≤_}
 use native.Mathlib.Omega.{arith}
 use lib.ListN.{getD}
 use Rattle.imgproc.specs.Sweeps.{Rowed}
-use Rattle.imgproc.proofs.morphology.sweeps.Lanes.{row-none, row-more, row-apart, row-all}
+use Rattle.imgproc.proofs.morphology.Lanes.{row-none, row-more, row-apart, row-all}
 use borrow.Author.Needs.{needs}
 use Rattle.imgproc.proofs.morphology.sweeps.copy_lanes.Statement.{statement}
 use Rattle.imgproc.proofs.morphology.sweeps.copy_lanes.Tie as tie

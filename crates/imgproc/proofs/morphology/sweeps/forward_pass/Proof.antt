@@ -6,7 +6,7 @@ use Rattle.imgproc.specs.Reach.{forwardAt}
 use Rattle.imgproc.specs.Compared.{Before}
 use Rattle.imgproc.specs.Sweeps.{lane, Forwards}
 use Rattle.imgproc.proofs.morphology.sweeps.Blocks.{order, after}
-use Rattle.imgproc.proofs.morphology.sweeps.Lanes.{apart-within, line-before, Downward, down-none, down-room, down-fits, down-all}
+use Rattle.imgproc.proofs.morphology.Lanes.{apart-within, line-before, Downward, down-none, down-room, down-fits, down-all}
 use Rattle.imgproc.proofs.morphology.sweeps.Passes.{forward-copy, forward-meet}
 use borrow.Author.Needs.{needs}
 use Rattle.imgproc.proofs.morphology.sweeps.forward_pass.Statement.{statement}

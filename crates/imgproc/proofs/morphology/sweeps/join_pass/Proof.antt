@@ -4,7 +4,7 @@ use native.Mathlib.Omega.{arith}
 use Rattle.imgproc.specs.Reach.{joinAt}
 use Rattle.imgproc.specs.Compared.{extreme}
 use Rattle.imgproc.specs.Sweeps.{lane, Joins}
-use Rattle.imgproc.proofs.morphology.sweeps.Lanes.{apart-within, line-order, Downward, down-none, down-room, down-fits, down-all}
+use Rattle.imgproc.proofs.morphology.Lanes.{apart-within, line-order, Downward, down-none, down-room, down-fits, down-all}
 use Rattle.imgproc.proofs.morphology.sweeps.Passes.{join-line}
 use borrow.Author.Needs.{needs}
 use Rattle.imgproc.proofs.morphology.sweeps.join_pass.Statement.{statement}
@@ -23,25 +23,25 @@ sub-radius c = search needs
 loop-holds : tie.Need-loop-holds Inv-loop μ-loop
 loop-holds c = down-none
 
-low-of-requires : tie.Need-low-of-requires Inv-loop μ-loop
-low-of-requires c κs = search needs
+low-requires : tie.Need-low-requires Inv-loop μ-loop
+low-requires c κs = search needs
 
 -- the line at low, that at high, and the one that a turn writes, are within the plane
-lower : (c : tie.After-low-of Inv-loop μ-loop)
+lower : (c : tie.After-low Inv-loop μ-loop)
     → let a = c .before .before .before .before .args in
-    c .low-of .result * a .width + a .width ≤ a .width * a .height
-lower c = let a = c .before .before .before .before .args in omega (arith, line-order (a .width) (c .low-of .result) (a .height) (omega arith))
+    c .low .result * a .width + a .width ≤ a .width * a .height
+lower c = let a = c .before .before .before .before .args in omega (arith, line-order (a .width) (c .low .result) (a .height) (omega arith))
 
 mul-low : tie.Need-mul-low Inv-loop μ-loop
 mul-low c = omega (arith, lower c)
 
-high-of-requires : tie.Need-high-of-requires Inv-loop μ-loop
-high-of-requires c κs = search needs
+high-requires : tie.Need-high-requires Inv-loop μ-loop
+high-requires c κs = search needs
 
-upper : (c : tie.After-high-of Inv-loop μ-loop)
+upper : (c : tie.After-high Inv-loop μ-loop)
     → let a = c .before .before .before .before .before .args in
-    c .high-of .result * a .width + a .width ≤ a .width * a .height
-upper c = let a = c .before .before .before .before .before .args in omega (arith, line-order (a .width) (c .high-of .result) (a .height) (omega arith))
+    c .high .result * a .width + a .width ≤ a .width * a .height
+upper c = let a = c .before .before .before .before .before .args in omega (arith, line-order (a .width) (c .high .result) (a .height) (omega arith))
 
 fits : (c : tie.In-loop Inv-loop μ-loop) → c .before .loop .at + c .before .before .before .args .width ≤ c .before .before .before .args .width * c .before .before .before .args .height
 fits c = down-fits (c .before .loop .inv) (c .loop-test .taken)
@@ -92,8 +92,8 @@ loop-again c =
     let start = in-loop .before .before .before in
     join-line (extreme (start .args .least)) _ _ _ _ _ _ (start .pre .left-apart) (start .pre .right-apart) _ _ (in-loop .before .loop .inv)
     (in-loop .loop-test .taken)
-    (highs .before .low-of .ensures)
-    (highs .high-of .ensures)
+    (highs .before .low .ensures)
+    (highs .high .ensures)
     (called .meet-lanes .ensures .row)
     (called .meet-lanes .ensures .counted)
 
@@ -111,9 +111,9 @@ join-pass-spec =
     μ-loop
     sub-radius
     loop-holds
-    low-of-requires
+    low-requires
     mul-low
-    high-of-requires
+    high-requires
     mul-high
     add-meet-lanes
     add-meet-lanes-2

@@ -6,7 +6,7 @@ use lib.ListN.{getD}
 use Rattle.imgproc.specs.Tallies.{Raised, raised-none, raised-twice, raised-as, room-left}
 use Rattle.imgproc.specs.Compared.{extreme}
 use Rattle.imgproc.specs.Sweeps.{Rowed}
-use Rattle.imgproc.proofs.morphology.sweeps.Lanes.{row-none, row-more, row-apart, row-all}
+use Rattle.imgproc.proofs.morphology.Lanes.{row-none, row-more, row-apart, row-all}
 use borrow.Author.Needs.{needs}
 use Rattle.imgproc.proofs.morphology.sweeps.meet_lanes.Statement.{statement}
 use Rattle.imgproc.proofs.morphology.sweeps.meet_lanes.Tie as tie

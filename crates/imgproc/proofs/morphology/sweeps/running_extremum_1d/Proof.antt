@@ -2,7 +2,7 @@
 use Prim.Native.Nat.{_*_}
 use native.Mathlib.Omega.{arith}
 use Rattle.imgproc.specs.Tallies.{room-part}
-use Rattle.imgproc.proofs.morphology.sweeps.Lanes.{apart-within, apart-swap}
+use Rattle.imgproc.proofs.morphology.Lanes.{apart-within, apart-swap}
 use Rattle.imgproc.proofs.morphology.sweeps.Passes.{lines-swept, passed-room}
 use Rattle.imgproc.proofs.morphology.sweeps.running_extremum_1d.Statement.{statement}
 use Rattle.imgproc.proofs.morphology.sweeps.running_extremum_1d.Tie as tie

@@ -2,7 +2,7 @@
 use mathlib.Core.Logic.{inl}
 use native.Mathlib.Omega.{arith}
 use Rattle.imgproc.specs.Tallies.{room-part}
-use Rattle.imgproc.proofs.morphology.sweeps.Lanes.{apart-within, apart-swap}
+use Rattle.imgproc.proofs.morphology.Lanes.{apart-within, apart-swap}
 use Rattle.imgproc.proofs.morphology.Planes.{strip-swept}
 use Rattle.imgproc.proofs.morphology.sweeps.sweep_strip.Statement.{statement}
 use Rattle.imgproc.proofs.morphology.sweeps.sweep_strip.Tie as tie

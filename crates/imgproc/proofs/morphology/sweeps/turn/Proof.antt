@@ -4,7 +4,7 @@ use mathlib.Core.Path.{_≡_}
 use native.Mathlib.Omega.{arith}
 use native.Mathlib.Nat.{not-suc-le-zero}
 use Rattle.imgproc.specs.Sweeps.{lane}
-use Rattle.imgproc.proofs.morphology.sweeps.Lanes.{off, outside-at, apart-within, line-order, Done, done-none, done-more}
+use Rattle.imgproc.proofs.morphology.Lanes.{off, outside-at, apart-within, line-order, Done, done-none, done-more}
 use borrow.Author.Needs.{needs}
 use Rattle.imgproc.proofs.morphology.sweeps.turn.Statement.{statement}
 use Rattle.imgproc.proofs.morphology.sweeps.turn.Tie as tie

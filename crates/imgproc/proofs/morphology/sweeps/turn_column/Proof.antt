@@ -2,7 +2,7 @@
 use Prim.Native.Nat.{ℕ, _+_, _-_, _*_, _≤_, _<_}
 use native.Mathlib.Omega.{arith}
 use Rattle.imgproc.specs.Sweeps.{lane, Rowed}
-use Rattle.imgproc.proofs.morphology.sweeps.Lanes.{line-order, row-none, row-more, row-apart, row-all}
+use Rattle.imgproc.proofs.morphology.Lanes.{line-order, row-none, row-more, row-apart, row-all}
 use borrow.Author.Needs.{needs}
 use Rattle.imgproc.proofs.morphology.sweeps.turn_column.Statement.{statement}
 use Rattle.imgproc.proofs.morphology.sweeps.turn_column.Tie as tie
