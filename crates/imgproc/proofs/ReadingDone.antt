@@ -19,7 +19,7 @@ use Rattle.imgproc.specs.Tallies.{Stands, stands-as, room-fresh, raised-
 use Rattle.imgproc.specs.Reach.{R}
 use Rattle.imgproc.specs.Walks.{sweep-walks}
 use Rattle.imgproc.specs.Grid.{skips}
-use Rattle.imgproc.specs.Reading.{ReadingNumbers, isDark, isLight, isSkipped, openedOf, judgedOver, judged, pixels, readingOf, marked}
+use Rattle.imgproc.specs.Reading.{ReadingNumbers, isDark, isLight, isSkipped, openedOf, judgedOver, judged, pixels, readingOf, marked, marksAt}
 use Rattle.imgproc.specs.ReadingSteps.{markedOver, OpenReady, Opened, MarkReady, Marks, JudgeRoom, PictureJudged, ReadReady, ReadDone}
 
 -- the packed geometry of a picture
@@ -55,24 +55,26 @@ module _ (src : List ℕ) (g : Geometry) (dst : List ℕ) (t : Geometry) (s : Re
       }
 
   module _ (raised : Tally) (bytes₁ : List ℕ) (o : Opened tally src g s bytes raised bytes₁) where
-    pub mark-stage : MarkReady (packedAs g) s bytes₁ words
+    pub mark-stage : MarkReady (packedAs g) s (marksAt (g .width) (g .height)) bytes₁ words
     mark-stage = record {
       layout = packed-kept (ready .from);
       tight = refl;
       tile-width = ready .tile-width;
       tile-height = ready .tile-height;
+      behind = omega arith;
       bytes-fit = omega (arith, o .long, ready .bytes-fit);
       words-fit = omega (arith, ready .words-fit);
     }
 
-    module _ (bytes₂ words₂ : List ℕ) (m : Marks (packedAs g) s bytes₁ words bytes₂ words₂) where
-      pub judge-stage : JudgeRoom (packedAs g) s bytes₂ words₂
+    module _ (bytes₂ words₂ : List ℕ) (m : Marks (packedAs g) s (marksAt (g .width) (g .height)) bytes₁ words bytes₂ words₂) where
+      pub judge-stage : JudgeRoom (packedAs g) s (marksAt (g .width) (g .height)) bytes₂ words₂
       judge-stage = record {
         marks = record {
           layout = packed-kept (ready .from);
           tight = refl;
           tile-width = ready .tile-width;
           tile-height = ready .tile-height;
+          behind = omega arith;
           bytes-fit = omega (arith, m .bytes-long, o .long, ready .bytes-fit);
           words-fit = omega (arith, m .words-long, ready .words-fit);
         };

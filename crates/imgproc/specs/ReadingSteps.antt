@@ -14,9 +14,21 @@ use Rattle.imgproc.specs.Tallies.{Raised, HasRoom}
 use Rattle.imgproc.specs.Reach.{walk, sweepWalks}
 use Rattle.imgproc.specs.Grid.{tilesX, tilesY, skips}
 use Rattle.imgproc.specs.Refusals.{tableEntries}
-use Rattle.imgproc.specs.GridCalls.{tileCount}
 use Rattle.imgproc.specs.Tables.{InRange, Ready}
-use Rattle.imgproc.specs.Reading.{isDark, isLight, isSkipped, openedOf, judgedOver, pixels, numbersOf, readingOf, byteOf, marked}
+use Rattle.imgproc.specs.Reading.{
+  isDark,
+  isLight,
+  isSkipped,
+  openedOf,
+  judgedOver,
+  pixels,
+  numbersOf,
+  readingOf,
+  byteOf,
+  marked,
+  readingBytes,
+  readingWords,
+}
 
 -- the opened picture, packed, its skips as bytes, and its tables: what a judgement goes by
 pub record JudgeReady (o : List ℕ) (g : Geometry) (sk ws : List ℕ) (at : ℕ) (s : ReadingConfig) : Type 0 where
@@ -74,25 +86,30 @@ pub record Opened (tally : Tally) (src : List ℕ) (g : Geometry) (s : ReadingCo
       raised
   pub long : length ws′ ≡ length ws
 
--- the skips of the opened picture, which stands packed at the workspace's start, written after nine planes
-pub record MarkReady (g : Geometry) (s : ReadingConfig) (bytes words : List ℕ) : Type 0 where
+-- the skips of the opened picture, which stands packed at the workspace's start, written from `at` on
+pub record MarkReady (g : Geometry) (s : ReadingConfig) (at : ℕ) (bytes words : List ℕ) : Type 0 where
   pub layout : Kept (g .width * g .height) g
   pub tight : g .stride ≡ g .width
   pub tile-width : 0 < s .grid .«tile_width»
   pub tile-height : 0 < s .grid .«tile_height»
-  pub bytes-fit : 9 * (g .width * g .height) + tilesX (s .grid) (g .width) * tilesY (s .grid) (g .height) ≤ length bytes
+  pub behind : g .width * g .height ≤ at
+  pub bytes-fit : at + tilesX (s .grid) (g .width) * tilesY (s .grid) (g .height) ≤ length bytes
   pub words-fit : 5 * (tilesX (s .grid) (g .width) * tilesY (s .grid) (g .height)) ≤ length words
 
-pub record Marks (g : Geometry) (s : ReadingConfig) (bytes words bytes′ words′ : List ℕ) : Type 0 where
+pub record Marks (g : Geometry) (s : ReadingConfig) (at : ℕ) (bytes words bytes′ words′ : List ℕ) : Type 0 where
   pub opened : part 0 (g .width * g .height) bytes′ ≡ part 0 (g .width * g .height) bytes
-  pub skips : part (9 * (g .width * g .height)) (tilesX (s .grid) (g .width) * tilesY (s .grid) (g .height)) bytes′ ≡ skips (s .grid) (g .width) (g .height) (part 0 (g .width * g .height) bytes)
+  pub skips :
+      part at (tilesX (s .grid) (g .width) * tilesY (s .grid) (g .height)) bytes′
+      ≡ skips (s .grid) (g .width) (g .height) (part 0 (g .width * g .height) bytes)
   pub bytes-long : length bytes′ ≡ length bytes
   pub words-long : length words′ ≡ length words
 
 -- the opened picture and its marks stand in the byte workspace, and the u64 workspace has room for the tables
-pub record JudgeRoom (g : Geometry) (s : ReadingConfig) (bytes words : List ℕ) : Type 0 where
-  pub marks : MarkReady g s bytes words
-  pub skips : part (9 * (g .width * g .height)) (tilesX (s .grid) (g .width) * tilesY (s .grid) (g .height)) bytes ≡ skips (s .grid) (g .width) (g .height) (part 0 (g .width * g .height) bytes)
+pub record JudgeRoom (g : Geometry) (s : ReadingConfig) (at : ℕ) (bytes words : List ℕ) : Type 0 where
+  pub marks : MarkReady g s at bytes words
+  pub skips :
+      part at (tilesX (s .grid) (g .width) * tilesY (s .grid) (g .height)) bytes
+      ≡ skips (s .grid) (g .width) (g .height) (part 0 (g .width * g .height) bytes)
   pub tables-fit : tableEntries (g .width) (g .height) ≤ length words
   pub settings : InRange (s .sauvola)
 
@@ -108,8 +125,8 @@ pub record ReadReady (src : List ℕ) (source : Geometry) (dst : List ℕ) (targ
   pub tile-width : 0 < s .grid .«tile_width»
   pub tile-height : 0 < s .grid .«tile_height»
   pub settings : InRange (s .sauvola)
-  pub bytes-fit : 9 * (source .width * source .height) + 2 * tileCount (s .grid) (source .width) (source .height) ≤ length bytes
-  pub words-fit : tableEntries (source .width) (source .height) + 5 * tileCount (s .grid) (source .width) (source .height) ≤ length words
+  pub bytes-fit : readingBytes (s .grid) (source .width) (source .height) ≤ length bytes
+  pub words-fit : readingWords (s .grid) (source .width) (source .height) ≤ length words
 
 pub record ReadDone (src : List ℕ) (source : Geometry) (dst : List ℕ) (target : Geometry) (s : ReadingConfig) (bytes words : List ℕ) (counts : ReadingCounts) (dst′ bytes′ words′ : List ℕ) : Type 0 where
   pub counted : numbersOf counts ≡ readingOf s (source .width) (source .height) (picture src source)

@@ -135,16 +135,17 @@ fn judge_rows(
     counts
 }
 
-// The judgements, once the opened picture and its marks stand in the workspaces.
+// Judges the opened picture, which stands at the start of the byte workspace with its tiles' skips from `marks` on.
 pub(crate) fn judge_picture(
     packed: Geometry,
     config: ReadingConfig,
     bytes: &[u8],
+    marks: usize,
     words: &mut [u64],
     dst: &mut [u8],
     dst_geometry: Geometry,
 ) -> Judged
-    requires { ⌜ JudgeRoom packed config (now bytes) (now words) ⌝ }
+    requires { ⌜ JudgeRoom packed config marks (now bytes) (now words) ⌝ }
     requires { ⌜ Kept (length (now dst)) «dst_geometry» × ((«dst_geometry» .width ≡ packed .width) × («dst_geometry» .height ≡ packed .height)) ⌝ }
     ensures { λ r. ⌜ PictureJudged config packed (part 0 (packed .width * packed .height) (now (bytes .entry))) (now (dst .entry)) («dst_geometry» .stride) r (now (dst .exit)) ⌝ }
 {
@@ -152,7 +153,6 @@ pub(crate) fn judge_picture(
     let grid = config.grid;
     let count = tiles::tiles(packed.width, grid.tile_width)
         * tiles::tiles(packed.height, grid.tile_height);
-    let marks = 9 * plane;
     let end = marks + count;
     build_tables(&bytes[..plane], packed, words, 0);
     judge_rows(

@@ -28,26 +28,26 @@ tiles-requires-2 c κs = search needs
 mul-count : tie.Need-mul-count
 mul-count c = omega (arith, count c, start c .pre .0 .marks .bytes-fit)
 
-mul-marks : tie.Need-mul-marks
-mul-marks c = omega (arith, start c .pre .0 .marks .bytes-fit)
-
 add-end : tie.Need-add-end
 add-end c = omega (arith, count c, start c .pre .0 .marks .bytes-fit)
 
 slice-aggregate-build-tables : tie.Need-slice-aggregate-build-tables
 slice-aggregate-build-tables c =
     let e = start (c .before) in
-    let a = e .args in sym (prefix-long (a .packed) (a .config) (now (a .bytes)) (now (a .words)) (e .pre .0 .marks))
+    let a = e .args in sym (prefix-long (a .packed) (a .config) (a .marks) (now (a .bytes)) (now (a .words)) (e .pre .0 .marks))
 
 build-tables-requires : tie.Need-build-tables-requires
 build-tables-requires c κs =
     let e = start (c .before .before) in
-    let a = e .args in (prefix-kept (a .packed) (a .config) (now (a .bytes)) (now (a .words)) (e .pre .0 .marks), omega (arith, e .pre .0 .tables-fit))
+    let a = e .args in (
+      prefix-kept (a .packed) (a .config) (a .marks) (now (a .bytes)) (now (a .words)) (e .pre .0 .marks),
+      omega (arith, e .pre .0 .tables-fit),
+    )
 
 slice-aggregate-judge-rows : tie.Need-slice-aggregate-judge-rows
 slice-aggregate-judge-rows c =
     let e = start (c .before .before .before .before .before .before) in
-    let a = e .args in sym (prefix-long (a .packed) (a .config) (now (a .bytes)) (now (a .words)) (e .pre .0 .marks))
+    let a = e .args in sym (prefix-long (a .packed) (a .config) (a .marks) (now (a .bytes)) (now (a .words)) (e .pre .0 .marks))
 
 sub-judge-rows : tie.Need-sub-judge-rows
 sub-judge-rows c = search needs
@@ -65,7 +65,8 @@ judge-rows-requires c κs =
     let t = b .before .before .before in
     let e = start t in
     let a = e .args in (
-      judge-ready (a .packed) (a .config) (now (a .bytes)) (now (a .words)) (e .pre .0) (t .before .tiles .result * t .tiles2 .result) (count t) (b .build-tables .ensures),
+      judge-ready (a .packed) (a .config) (a .marks) (now (a .bytes)) (now (a .words)) (e .pre .0)
+          (t .before .tiles .result * t .tiles2 .result) (count t) (b .build-tables .ensures),
       e .pre .1,
     )
 
@@ -86,7 +87,6 @@ judge-picture-spec =
     tiles-requires
     tiles-requires-2
     mul-count
-    mul-marks
     add-end
     slice-aggregate-build-tables
     build-tables-requires

@@ -16,26 +16,23 @@ slice-reshare-prefix-gather c = search needs
 slice-aggregate-gather : tie.Need-slice-aggregate-gather
 slice-aggregate-gather c =
     let e = c .before .before .before .before in
-    let a = e .args in sym (prefix-long (a .packed) (a .config) (now (a .bytes)) (now (a .words)) (e .pre))
+    let a = e .args in sym (prefix-long (a .packed) (a .config) (a .marks) (now (a .bytes)) (now (a .words)) (e .pre))
 
 gather-requires : tie.Need-gather-requires
 gather-requires c κs =
     let e = c .before .before .before .before .before in
     let a = e .args in (
-      prefix-kept (a .packed) (a .config) (now (a .bytes)) (now (a .words)) (e .pre),
-      sized (a .packed) (a .config) (now (a .bytes)) (now (a .words)) (e .pre),
+      prefix-kept (a .packed) (a .config) (a .marks) (now (a .bytes)) (now (a .words)) (e .pre),
+      sized (a .packed) (a .config) (a .marks) (now (a .bytes)) (now (a .words)) (e .pre),
       omega (arith, e .pre .words-fit),
     )
-
-mul-write-skips : tie.Need-mul-write-skips
-mul-write-skips c = search needs
 
 write-skips-requires : tie.Need-write-skips-requires
 write-skips-requires c κs =
     let f = c .before .before .before .before in
     let e = f .before .before .before .before .before .before in
     let a = e .args in (
-      sized (a .packed) (a .config) (now (a .bytes)) (now (a .words)) (e .pre),
+      sized (a .packed) (a .config) (a .marks) (now (a .bytes)) (now (a .words)) (e .pre),
       record { picture = _; gathered = f .gather .ensures .gathered },
       omega (arith, e .pre .bytes-fit),
     )
@@ -52,7 +49,7 @@ returns c =
     let f = w .before .before .before .before .before in
     let e = f .before .before .before .before .before .before in
     let a = e .args in
-    marked (a .packed) (a .config) (now (a .bytes)) (now (a .words)) (e .pre) (f .gather .ensures) (w .write-skips .ensures)
+    marked (a .packed) (a .config) (a .marks) (now (a .bytes)) (now (a .words)) (e .pre) (f .gather .ensures) (w .write-skips .ensures)
 
 pub mark-tiles-spec : {M : Type 1} → statement M
 mark-tiles-spec =
@@ -62,7 +59,6 @@ mark-tiles-spec =
     slice-reshare-prefix-gather
     slice-aggregate-gather
     gather-requires
-    mul-write-skips
     write-skips-requires
     same-length
     same-length-2

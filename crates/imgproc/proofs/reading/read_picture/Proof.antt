@@ -7,7 +7,13 @@ use Rattle.imgproc.proofs.reading.read_picture.Statement.{statement}
 use Rattle.imgproc.proofs.reading.read_picture.Tie as tie
 
 abbrev entry : tie.After-start → tie.Start
-entry b = b .before .before .before .before .before
+entry b = b .before .before .before .before .before .before
+
+mul-marks : tie.Need-mul-marks
+mul-marks c = search needs
+
+mul-marks-2 : tie.Need-mul-marks-2
+mul-marks-2 c = search needs
 
 start-requires : tie.Need-start-requires
 start-requires c κs = search needs
@@ -32,7 +38,10 @@ judge-picture-requires c κs =
     let b = f .before .before in
     let e = entry b in
     let a = e .args in (
-      judge-stage (now (a .src)) (a .src-geometry) (now (a .dst)) (a .dst-geometry) (a .config) (now (a .bytes)) (now (a .words)) (e .pre) (b .start .result) (b .start .ensures) (f .flatten-and-open .result) (f .flatten-and-open .last .1 .1 .1 .1 .0) (f .flatten-and-open .ensures) (m .mark-tiles .last .1 .1 .0) (m .mark-tiles .last .1 .1 .1 .0) (m .mark-tiles .ensures),
+      judge-stage (now (a .src)) (a .src-geometry) (now (a .dst)) (a .dst-geometry) (a .config) (now (a .bytes)) (now (a .words)) (e .pre)
+          (b .start .result) (b .start .ensures)
+          (f .flatten-and-open .result) (f .flatten-and-open .last .1 .1 .1 .1 .0) (f .flatten-and-open .ensures)
+          (m .mark-tiles .last .1 .1 .0) (m .mark-tiles .last .1 .1 .1 .1 .0) (m .mark-tiles .ensures),
       (e .pre .to, (sym (e .pre .wide), sym (e .pre .high))),
     )
 
@@ -53,13 +62,18 @@ returns c =
     let b = f .before .before in
     let e = entry b in
     let a = e .args in
-    read-done (now (a .src)) (a .src-geometry) (now (a .dst)) (a .dst-geometry) (a .config) (now (a .bytes)) (now (a .words)) (e .pre) (b .start .result) (b .start .ensures) (f .flatten-and-open .result) (f .flatten-and-open .last .1 .1 .1 .1 .0) (f .flatten-and-open .ensures) (m .mark-tiles .last .1 .1 .0) (m .mark-tiles .last .1 .1 .1 .0) (m .mark-tiles .ensures)
-    (j .judge-picture .ensures) (j .judge-picture .kept .1 .1 .1 .0)
+    read-done (now (a .src)) (a .src-geometry) (now (a .dst)) (a .dst-geometry) (a .config) (now (a .bytes)) (now (a .words)) (e .pre)
+    (b .start .result) (b .start .ensures)
+    (f .flatten-and-open .result) (f .flatten-and-open .last .1 .1 .1 .1 .0) (f .flatten-and-open .ensures)
+    (m .mark-tiles .last .1 .1 .0) (m .mark-tiles .last .1 .1 .1 .1 .0) (m .mark-tiles .ensures)
+    (j .judge-picture .ensures) (j .judge-picture .kept .1 .1 .1 .1 .0)
 
 pub read-picture-spec : {M : Type 1} → statement M
 read-picture-spec =
     tie.close
     (tie.spec
+    mul-marks
+    mul-marks-2
     start-requires
     flatten-and-open-requires
     mark-tiles-requires
