@@ -119,9 +119,17 @@ readingSettings s =
     gridSettings (s .grid) then
     sauvolaSettings (s .sauvola)
 
+-- the planes of w × h bytes that the byte workspace begins with
+abbrev pub planes : ℕ
+planes = 9
+
+-- where the skips of the tiles stand: after the planes
+abbrev pub marksAt : ℕ → ℕ → ℕ
+marksAt w h = planes * (w * h)
+
 -- the bytes that a reading asks for: 9wh + 2t
 abbrev pub readingBytes : TileThresholdConfig → ℕ → ℕ → ℕ
-readingBytes grid w h = 9 * (w * h) + 2 * tileCount grid w h
+readingBytes grid w h = marksAt w h + 2 * tileCount grid w h
 
 -- and the u64s: 2(w + 1)(h + 1) + 5t
 abbrev pub readingWords : TileThresholdConfig → ℕ → ℕ → ℕ

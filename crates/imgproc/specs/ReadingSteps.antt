@@ -93,28 +93,29 @@ pub record Opened (tally : Tally) (src : List ℕ) (g : Geometry) (s : ReadingCo
       raised
   pub long : length ws′ ≡ length ws
 
--- the skips of the opened picture, which stands packed at the workspace's start, written after nine planes
-pub record MarkReady (g : Geometry) (s : ReadingConfig) (bytes words : List ℕ) : Type 0 where
+-- the skips of the opened picture, which stands packed at the workspace's start, written from `at` on
+pub record MarkReady (g : Geometry) (s : ReadingConfig) (at : ℕ) (bytes words : List ℕ) : Type 0 where
   pub layout : Kept (g .width * g .height) g
   pub tight : g .stride ≡ g .width
   pub tile-width : 0 < s .grid .«tile_width»
   pub tile-height : 0 < s .grid .«tile_height»
-  pub bytes-fit : 9 * (g .width * g .height) + tilesX (s .grid) (g .width) * tilesY (s .grid) (g .height) ≤ length bytes
+  pub behind : g .width * g .height ≤ at
+  pub bytes-fit : at + tilesX (s .grid) (g .width) * tilesY (s .grid) (g .height) ≤ length bytes
   pub words-fit : 5 * (tilesX (s .grid) (g .width) * tilesY (s .grid) (g .height)) ≤ length words
 
-pub record Marks (g : Geometry) (s : ReadingConfig) (bytes words bytes′ words′ : List ℕ) : Type 0 where
+pub record Marks (g : Geometry) (s : ReadingConfig) (at : ℕ) (bytes words bytes′ words′ : List ℕ) : Type 0 where
   pub opened : part 0 (g .width * g .height) bytes′ ≡ part 0 (g .width * g .height) bytes
   pub skips :
-      part (9 * (g .width * g .height)) (tilesX (s .grid) (g .width) * tilesY (s .grid) (g .height)) bytes′
+      part at (tilesX (s .grid) (g .width) * tilesY (s .grid) (g .height)) bytes′
       ≡ skips (s .grid) (g .width) (g .height) (part 0 (g .width * g .height) bytes)
   pub bytes-long : length bytes′ ≡ length bytes
   pub words-long : length words′ ≡ length words
 
 -- the opened picture and its marks stand in the byte workspace, and the u64 workspace has room for the tables
-pub record JudgeRoom (g : Geometry) (s : ReadingConfig) (bytes words : List ℕ) : Type 0 where
-  pub marks : MarkReady g s bytes words
+pub record JudgeRoom (g : Geometry) (s : ReadingConfig) (at : ℕ) (bytes words : List ℕ) : Type 0 where
+  pub marks : MarkReady g s at bytes words
   pub skips :
-      part (9 * (g .width * g .height)) (tilesX (s .grid) (g .width) * tilesY (s .grid) (g .height)) bytes
+      part at (tilesX (s .grid) (g .width) * tilesY (s .grid) (g .height)) bytes
       ≡ skips (s .grid) (g .width) (g .height) (part 0 (g .width * g .height) bytes)
   pub tables-fit : tableEntries (g .width) (g .height) ≤ length words
   pub settings : InRange (s .sauvola)

@@ -22,6 +22,9 @@ ghost use Rattle.imgproc.specs.Reading.{Reads, readAnswer, readingSettin
 ghost use Rattle.imgproc.specs.Refusals.{first};
 ghost use Rattle.imgproc.specs.ReadingSteps.{ReadReady, ReadDone, OpenReady, Opened, MarkReady, Marks};
 
+// A reading's byte workspace begins with this many planes of width × height bytes; the tiles' skips follow them.
+const PLANES: usize = 9;
+
 pub struct ReadingCounts {
     pub dark: u64,
     pub light: u64,
@@ -56,17 +59,30 @@ fn flatten_and_open(
     open_rect_into(raised, bytes, plane, 0, spare, kernel, width, height)
 }
 
-// The skips of the opened picture's tiles, after nine planes of the workspace.
-fn mark_tiles(packed: Geometry, config: ReadingConfig, bytes: &mut [u8], words: &mut [u64])
-    requires { ⌜ MarkReady packed config (now bytes) (now words) ⌝ }
-    ensures { λ _. ⌜ Marks packed config (now (bytes .entry)) (now (words .entry)) (now (bytes .exit)) (now (words .exit)) ⌝ }
+// Marks the opened picture's tiles: writes their skips from `marks` on.
+fn mark_tiles(
+    packed: Geometry,
+    config: ReadingConfig,
+    bytes: &mut [u8],
+    marks: usize,
+    words: &mut [u64],
+)
+    requires { ⌜ MarkReady packed config marks (now bytes) (now words) ⌝ }
+    ensures { λ _.
+        ⌜
+        Marks packed config marks
+        (now (bytes .entry))
+        (now (words .entry))
+        (now (bytes .exit))
+        (now (words .exit))
+        ⌝ }
 {
     let width = packed.width;
     let height = packed.height;
     let plane = width * height;
     let grid = config.grid;
     gather(&bytes[..plane], packed, grid, words, 0);
-    write_skips(words, 0, width, height, grid, bytes, 9 * plane);
+    write_skips(words, 0, width, height, grid, bytes, marks);
 }
 
 // Does the work of an accepted reading: one tally, started at 0, goes through the closing and the opening.
@@ -112,9 +128,10 @@ fn read_picture(
         height: src_geometry.height,
         stride: src_geometry.width,
     };
+    let marks = PLANES * (src_geometry.width * src_geometry.height);
     let tally = flatten_and_open(start(), src, src_geometry, config, bytes);
-    mark_tiles(packed, config, bytes, words);
-    let judged = judge_picture(packed, config, bytes, words, dst, dst_geometry);
+    mark_tiles(packed, config, bytes, marks, words);
+    let judged = judge_picture(packed, config, bytes, marks, words, dst, dst_geometry);
     ReadingCounts {
         dark: judged.dark,
         light: judged.light,
@@ -158,7 +175,7 @@ pub(crate) fn check_room(
     let width = geometry.width;
     let height = geometry.height;
     let count = tiles_along(width, grid.tile_width) * tiles_along(height, grid.tile_height);
-    if bytes < 9 * (width * height) + 2 * count {
+    if bytes < PLANES * (width * height) + 2 * count {
         return Check::Refused(ImgProcError::WorkspaceTooSmall);
     }
     if words < 2 * ((width + 1) * (height + 1)) + 5 * count {

@@ -31,6 +31,7 @@ use Rattle.imgproc.specs.Reading.{
   comparisonsOf,
   readingOf,
   marked,
+  marksAt,
 }
 use Rattle.imgproc.specs.ReadingSteps.{markedOver, OpenReady, Opened, MarkReady, Marks, JudgeRoom, PictureJudged, ReadReady, ReadDone}
 
@@ -71,25 +72,30 @@ module _ {lent : ReadingLent} (ready : ReadReady lent) {tally : Tally} (fresh : 
         room = room-fresh fresh (omega arith);
       }
 
+  abbrev marksPlace : ℕ
+  marksPlace = marksAt (g .width) (g .height)
+
   module _ {raised : Tally} {bytes₁ : List ℕ} (o : Opened tally (lent .src) g s (lent .bytes) raised bytes₁) where
-    pub mark-stage : MarkReady (packedAs g) s bytes₁ (lent .words)
+    pub mark-stage : MarkReady (packedAs g) s marksPlace bytes₁ (lent .words)
     mark-stage = record {
       layout = packed-kept (ready .pair .from);
       tight = refl;
       tile-width = ready .settings .tile-width;
       tile-height = ready .settings .tile-height;
+      behind = omega arith;
       bytes-fit = omega (arith, o .long, ready .bytes-fit);
       words-fit = omega (arith, ready .words-fit);
     }
 
-    module _ {bytes₂ words₂ : List ℕ} (m : Marks (packedAs g) s bytes₁ (lent .words) bytes₂ words₂) where
-      pub judge-stage : JudgeRoom (packedAs g) s bytes₂ words₂
+    module _ {bytes₂ words₂ : List ℕ} (m : Marks (packedAs g) s marksPlace bytes₁ (lent .words) bytes₂ words₂) where
+      pub judge-stage : JudgeRoom (packedAs g) s marksPlace bytes₂ words₂
       judge-stage = record {
         marks = record {
           layout = packed-kept (ready .pair .from);
           tight = refl;
           tile-width = ready .settings .tile-width;
           tile-height = ready .settings .tile-height;
+          behind = omega arith;
           bytes-fit = omega (arith, m .bytes-long, o .long, ready .bytes-fit);
           words-fit = omega (arith, m .words-long, ready .words-fit);
         };

@@ -14,9 +14,19 @@ use Rattle.imgproc.specs.declared.reading.ReadingCounts.{ReadingCounts}
 use Rattle.imgproc.specs.declared.ImgProcError.{ImgProcError}
 use Rattle.imgproc.specs.declared.ImgProcError.the-variants.{InvalidKernel, WorkspaceTooSmall}
 use Rattle.imgproc.specs.declared.Check.the-variants.{Accepted, Refused}
-use Rattle.imgproc.specs.Refusals.{errorNumber, Conditions, first, _then_, refusedIf, badKernel, divisionSettings, sauvolaSettings, tableEntries}
+use Rattle.imgproc.specs.Refusals.{errorNumber, Conditions, first, _then_, refusedIf, badKernel, divisionSettings, sauvolaSettings}
 use Rattle.imgproc.specs.GridCalls.{gridSettings, tileCount}
-use Rattle.imgproc.specs.Reading.{readingSettings, readingRoom, ReadingLent, ReadingLeft, numbersOf, Reads}
+use Rattle.imgproc.specs.Reading.{
+  readingSettings,
+  marksAt,
+  readingBytes,
+  readingWords,
+  readingRoom,
+  ReadingLent,
+  ReadingLeft,
+  numbersOf,
+  Reads,
+}
 use Rattle.imgproc.specs.ReadingSteps.{Usable, ReadDone}
 use Rattle.imgproc.specs.RefusalLaws.{then-accepted, both-accepted, not-refused, kernel-says, division-says}
 use Rattle.imgproc.proofs.WaysOut.{Comes, Pair, source-same, target-same, past}
@@ -44,34 +54,37 @@ says s p =
 
 -- ---- the workspaces
 module _ (g : Geometry) (s : ReadingConfig) (bytes words t : ℕ) (is : t ≡ tileCount (s .grid) (g .width) (g .height)) where
-  pub bytes-short : bytes < 9 * (g .width * g .height) + 2 * t → Refused WorkspaceTooSmall ≡ first (readingRoom g s bytes words)
+  pub bytes-short : bytes < marksAt (g .width) (g .height) + 2 * t → Refused WorkspaceTooSmall ≡ first (readingRoom g s bytes words)
   unfolding first
-  bytes-short l = simp (lt-ltb bytes (9 * (g .width * g .height) + 2 * tileCount (s .grid) (g .width) (g .height)) (rw is at l))
+  bytes-short l = simp (lt-ltb bytes (readingBytes (s .grid) (g .width) (g .height)) (rw is at l))
 
-  module _ (b : 9 * (g .width * g .height) + 2 * t ≤ bytes) where
+  module _ (b : marksAt (g .width) (g .height) + 2 * t ≤ bytes) where
     pub words-short : words < 2 * ((g .width + 1) * (g .height + 1)) + 5 * t → Refused WorkspaceTooSmall ≡ first (readingRoom g s bytes words)
     unfolding first
     words-short l =
         simp (
-          le-ltb bytes (9 * (g .width * g .height) + 2 * tileCount (s .grid) (g .width) (g .height)) (rw is at b),
-          lt-ltb words (tableEntries (g .width) (g .height) + 5 * tileCount (s .grid) (g .width) (g .height)) (rw is at l),
+          le-ltb bytes (readingBytes (s .grid) (g .width) (g .height)) (rw is at b),
+          lt-ltb words (readingWords (s .grid) (g .width) (g .height)) (rw is at l),
         )
 
     pub room-enough : 2 * ((g .width + 1) * (g .height + 1)) + 5 * t ≤ words → Accepted ≡ first (readingRoom g s bytes words)
     unfolding first
     room-enough l =
         simp (
-          le-ltb bytes (9 * (g .width * g .height) + 2 * tileCount (s .grid) (g .width) (g .height)) (rw is at b),
-          le-ltb words (tableEntries (g .width) (g .height) + 5 * tileCount (s .grid) (g .width) (g .height)) (rw is at l),
+          le-ltb bytes (readingBytes (s .grid) (g .width) (g .height)) (rw is at b),
+          le-ltb words (readingWords (s .grid) (g .width) (g .height)) (rw is at l),
         )
 
-pub room-says : (g : Geometry) (s : ReadingConfig) (bytes words : ℕ) → first (readingRoom g s bytes words) ≡ Accepted → (9 * (g .width * g .height) + 2 * tileCount (s .grid) (g .width) (g .height) ≤ bytes) × (tableEntries (g .width) (g .height) + 5 * tileCount (s .grid) (g .width) (g .height) ≤ words)
+pub room-says :
+    (g : Geometry) (s : ReadingConfig) (bytes words : ℕ)
+    → first (readingRoom g s bytes words) ≡ Accepted
+    → (readingBytes (s .grid) (g .width) (g .height) ≤ bytes) × (readingWords (s .grid) (g .width) (g .height) ≤ words)
 room-says g s bytes words p =
-    let a = ltb bytes (9 * (g .width * g .height) + 2 * tileCount (s .grid) (g .width) (g .height)) in
-    let b = ltb words (tableEntries (g .width) (g .height) + 5 * tileCount (s .grid) (g .width) (g .height)) in
+    let a = ltb bytes (readingBytes (s .grid) (g .width) (g .height)) in
+    let b = ltb words (readingWords (s .grid) (g .width) (g .height)) in
     let n = neither a b (not-refused (a || b) WorkspaceTooSmall p) in (
-      ltb-false bytes (9 * (g .width * g .height) + 2 * tileCount (s .grid) (g .width) (g .height)) (n .0),
-      ltb-false words (tableEntries (g .width) (g .height) + 5 * tileCount (s .grid) (g .width) (g .height)) (n .1),
+      ltb-false bytes (readingBytes (s .grid) (g .width) (g .height)) (n .0),
+      ltb-false words (readingWords (s .grid) (g .width) (g .height)) (n .1),
     )
 
 -- ---- the contract

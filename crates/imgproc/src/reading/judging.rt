@@ -148,16 +148,17 @@ fn judge_rows(
     counts
 }
 
-// The judgements, once the opened picture and its marks stand in the workspaces.
+// Judges the opened picture, which stands at the start of the byte workspace with its tiles' skips from `marks` on.
 pub(crate) fn judge_picture(
     packed: Geometry,
     config: ReadingConfig,
     bytes: &[u8],
+    marks: usize,
     words: &mut [u64],
     dst: &mut [u8],
     dst_geometry: Geometry,
 ) -> Judged
-    requires { ⌜ JudgeRoom packed config (now bytes) (now words) ⌝ }
+    requires { ⌜ JudgeRoom packed config marks (now bytes) (now words) ⌝ }
     requires {
         ⌜
         Kept (length (now dst)) «dst_geometry»
@@ -176,7 +177,6 @@ pub(crate) fn judge_picture(
     let grid = config.grid;
     let count = tiles_along(packed.width, grid.tile_width)
         * tiles_along(packed.height, grid.tile_height);
-    let marks = 9 * plane;
     let end = marks + count;
     build_tables(&bytes[..plane], packed, words, 0);
     judge_rows(

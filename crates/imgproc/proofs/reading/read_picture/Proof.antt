@@ -6,7 +6,13 @@ use Rattle.imgproc.proofs.reading.read_picture.Statement.{statement}
 use Rattle.imgproc.proofs.reading.read_picture.Tie as tie
 
 abbrev entry : tie.After-start → tie.Start
-entry b = b .before .before .before .before .before
+entry b = b .before .before .before .before .before .before
+
+mul-marks : tie.Need-mul-marks
+mul-marks c = search needs
+
+mul-marks-2 : tie.Need-mul-marks-2
+mul-marks-2 c = search needs
 
 start-requires : tie.Need-start-requires
 start-requires c κs = search needs
@@ -48,12 +54,14 @@ returns c =
     let f = m .before .before .before .before .before in
     let b = f .before .before in
     read-done (entry b .pre) (b .start .ensures) (f .flatten-and-open .ensures) (m .mark-tiles .ensures)
-    (j .judge-picture .ensures) (j .judge-picture .kept .1 .1 .1 .0)
+    (j .judge-picture .ensures) (j .judge-picture .kept .1 .1 .1 .1 .0)
 
 pub read-picture-spec : {M : Type 1} → statement M
 read-picture-spec =
     tie.close
     (tie.spec
+    mul-marks
+    mul-marks-2
     start-requires
     flatten-and-open-requires
     mark-tiles-requires
