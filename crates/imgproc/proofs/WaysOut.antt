@@ -15,6 +15,7 @@ use Rattle.imgproc.specs.declared.ImgProcError.the-variants.{Image, Dime
 use Rattle.imgproc.specs.declared.Check.{Check}
 use Rattle.imgproc.specs.declared.Check.the-variants.{Accepted, Refused}
 use Rattle.imgproc.specs.Refusals.{Conditions, first, refusedIf, _then_, viewConditions, pairConditions}
+use Rattle.imgproc.specs.Calls.{Paired}
 use Rattle.imgproc.specs.RefusalLaws.{source-refused, then-refused, then-accepted, refuses-last, passes-last, view-refused, view-accepted}
 
 -- ---- what is known where a call leaves: each is a record, so that its numbers are found
@@ -145,6 +146,9 @@ module _ {a : ℕ} {s : Geometry} {b : ℕ} {t g h : Geometry} (p : Pair a s b t
 
   pub target-kept : Kept b h
   target-kept = kept (p .target)
+
+  pub paired : Paired a g b h
+  paired = record { from = source-kept; to = target-kept; wide = p .wide; high = p .high }
 
   pub source-same : s ≡ g
   source-same = same (p .source)

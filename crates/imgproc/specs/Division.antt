@@ -5,15 +5,15 @@ use mathlib.Core.List.{List}
 use lib.ListN.{length, getD}
 use Rattle.image.specs.declared.Geometry.{Geometry}
 use Rattle.image.specs.Layout.{Kept}
-use Rattle.image.specs.Plane.{plane, pixel, painted, part, picture}
+use Rattle.image.specs.Plane.{plane, pixel, part, picture}
 use Rattle.imgproc.specs.declared.illumination.BackgroundDivideConfig.{BackgroundDivideConfig}
 use Rattle.imgproc.specs.declared.morphology.tally.Tally.{Tally}
-use Rattle.imgproc.specs.Tallies.{Raised, HasRoom, Stands}
+use Rattle.imgproc.specs.Tallies.{Raised, HasRoom}
 use Rattle.imgproc.specs.Reach.{sweepWalks}
 use Rattle.imgproc.specs.Morphology.{sweptRect, closed}
 use Rattle.imgproc.specs.Sweeps.{Apart, Rowed}
 use Rattle.imgproc.specs.Refusals.{elementAndRoom}
-use Rattle.imgproc.specs.Calls.{Operator}
+use Rattle.imgproc.specs.Calls.{Loan, Operator, Paired}
 
 -- the Rust's defaults
 abbrev pub divisionDefaults : BackgroundDivideConfig
@@ -52,29 +52,23 @@ abbrev pub PlaneDivided : BackgroundDivideConfig → ℕ → ℕ → ℕ → Lis
 PlaneDivided d from at n ws ws′ = Rowed at n (λ i. quotient d (getD ws (from + i) 0) (getD ws (at + i) 0)) ws ws′
 
 -- a picture that is packed into the first plane of the workspace, closed and divided in the second
-pub record FlattenReady (tally : Tally) (src : List ℕ) (g : Geometry) (d : BackgroundDivideConfig) (ws : List ℕ) : Type 0 where
+pub record FlattenReady (tally : Tally) (src : List ℕ) (g : Geometry) (d : BackgroundDivideConfig) (ws : List ℕ)
+    : Type 0 where
   pub from : Kept (length src) g
   pub kernel : 0 < d .«structuring_element»
   pub floor : 0 < d .«denominator_floor»
   pub fits : 6 * (g .width * g .height) ≤ length ws
   pub room : HasRoom tally (12 * (g .width * g .height))
 
-pub record Flattened (tally : Tally) (src : List ℕ) (g : Geometry) (d : BackgroundDivideConfig) (ws : List ℕ) (raised : Tally) (ws′ : List ℕ) : Type 0 where
+pub record Flattened (tally : Tally) (src : List ℕ) (g : Geometry) (d : BackgroundDivideConfig) (ws : List ℕ)
+    (raised : Tally) (ws′ : List ℕ) : Type 0 where
   pub leaves : part (g .width * g .height) (g .width * g .height) ws′ ≡ divided d (g .width) (g .height) (picture src g)
   pub counted : Raised tally (2 * sweepWalks (d .«structuring_element») (g .width) (g .height)) raised
   pub long : length ws′ ≡ length ws
 
--- the work of an accepted call
-pub record DivideReady (src : List ℕ) (source : Geometry) (dst : List ℕ) (target : Geometry) (d : BackgroundDivideConfig) (ws : List ℕ) : Type 0 where
-  pub from : Kept (length src) source
-  pub to : Kept (length dst) target
-  pub wide : source .width ≡ target .width
-  pub high : source .height ≡ target .height
-  pub kernel : 0 < d .«structuring_element»
-  pub floor : 0 < d .«denominator_floor»
-  pub fits : 6 * (source .width * source .height) ≤ length ws
-
-pub record Divided (src : List ℕ) (source : Geometry) (dst : List ℕ) (target : Geometry) (d : BackgroundDivideConfig) (ws : List ℕ) (raised : Tally) (dst′ ws′ : List ℕ) : Type 0 where
-  pub leaves : dst′ ≡ painted (divided d (source .width) (source .height) (picture src source)) (source .width) (source .height) (target .stride) dst
-  pub counted : Stands raised (2 * sweepWalks (d .«structuring_element») (source .width) (source .height))
-  pub long : length ws′ ≡ length ws
+-- what the work of an accepted call asks; what it leaves is `Works` of Calls
+pub record DivideReady (lent : Loan BackgroundDivideConfig) : Type 0 where
+  pub pair : Paired (length (lent .src)) (lent .source) (length (lent .dst)) (lent .target)
+  pub kernel : 0 < lent .settings .«structuring_element»
+  pub floor : 0 < lent .settings .«denominator_floor»
+  pub fits : 6 * (lent .source .width * lent .source .height) ≤ length (lent .workspace)

@@ -1,12 +1,11 @@
--- The contracts of the four morphology calls: what each answers, and what it leaves in the lent buffers. Definitions only.
+-- Document 01, part 2: the four morphology calls; and, inside, what the parts of an accepted one ask and leave.
+-- Definitions only.
 use Prim.Native.Nat.{ℕ, _*_, _^_, _≤_, _<_}
 use mathlib.Core.Path.{_≡_}
 use mathlib.Core.List.{List}
 use lib.ListN.{length}
-use Rattle.image.specs.declared.Geometry.{Geometry}
 use Rattle.image.specs.Answers.{Answer, accepted, refused}
-use Rattle.image.specs.Layout.{Kept}
-use Rattle.image.specs.Plane.{painted, part, picture}
+use Rattle.image.specs.Plane.{part}
 use Rattle.imgproc.specs.declared.morphology.Operation.{Operation}
 use Rattle.imgproc.specs.declared.morphology.Operation.the-variants.{Erode, Dilate, Open, Close}
 use Rattle.imgproc.specs.declared.morphology.Compared.{Compared}
@@ -15,7 +14,7 @@ use Rattle.imgproc.specs.declared.morphology.tally.Tally.{Tally}
 use Rattle.imgproc.specs.Tallies.{Raised, HasRoom, Stands}
 use Rattle.imgproc.specs.Reach.{sweepWalks, R}
 use Rattle.imgproc.specs.Refusals.{errorNumber, kernelAndRoom}
-use Rattle.imgproc.specs.Calls.{Operator}
+use Rattle.imgproc.specs.Calls.{Loan, Operator, Paired}
 use Rattle.imgproc.specs.Morphology.{eroded, dilated, opened, closed}
 
 -- the packed picture that an operation makes
@@ -70,7 +69,8 @@ pub record OperateReady (tally : Tally) (d : List ℕ) (k w h : ℕ) : Type 0 wh
   pub wide : 0 < w
   pub room : HasRoom tally (12 * (w * h))
 
-pub record Operated (operation : Operation) (tally : Tally) (d : List ℕ) (k w h : ℕ) (raised : Tally) (d′ : List ℕ) : Type 0 where
+pub record Operated (operation : Operation) (tally : Tally) (d : List ℕ) (k w h : ℕ) (raised : Tally) (d′ : List ℕ)
+    : Type 0 where
   pub leaves : part (w * h) (w * h) d′ ≡ operated operation k w h (part 0 (w * h) d)
   pub counted : Raised tally (operationWalks operation k w h) raised
   pub long : length d′ ≡ length d
@@ -87,16 +87,8 @@ pub record Counts (operation : Operation) (d : List ℕ) (k w h : ℕ) (raised :
   pub counted : Stands raised (operationWalks operation k w h)
   pub long : length d′ ≡ length d
 
--- from picture to picture
-pub record RunReady (src : List ℕ) (source : Geometry) (dst : List ℕ) (target : Geometry) (k : ℕ) (ws : List ℕ) : Type 0 where
-  pub from : Kept (length src) source
-  pub to : Kept (length dst) target
-  pub wide : source .width ≡ target .width
-  pub high : source .height ≡ target .height
-  pub kernel : 0 < k
-  pub fits : 6 * (source .width * source .height) ≤ length ws
-
-pub record Runs (operation : Operation) (src : List ℕ) (source : Geometry) (dst : List ℕ) (target : Geometry) (k : ℕ) (ws : List ℕ) (raised : Tally) (dst′ ws′ : List ℕ) : Type 0 where
-  pub leaves : dst′ ≡ painted (operated operation k (source .width) (source .height) (picture src source)) (source .width) (source .height) (target .stride) dst
-  pub counted : Stands raised (operationWalks operation k (source .width) (source .height))
-  pub long : length ws′ ≡ length ws
+-- what the work of an accepted call asks; what it leaves is `Works` of Calls
+pub record RunReady (lent : Loan ℕ) : Type 0 where
+  pub pair : Paired (length (lent .src)) (lent .source) (length (lent .dst)) (lent .target)
+  pub kernel : 0 < lent .settings
+  pub fits : 6 * (lent .source .width * lent .source .height) ≤ length (lent .workspace)

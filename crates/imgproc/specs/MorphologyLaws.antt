@@ -1,4 +1,5 @@
--- What erosion and dilation are, without a fold: at each pixel THE extreme of its reach, and nothing else is. Assumes nothing.
+-- What erosion and dilation are, without a fold: at each pixel THE extreme of its reach, and nothing else is.
+-- Assumes nothing.
 use mathlib.Core.Path.{_≡_, ap}
 use mathlib.Core.Bool.{Bool, true, false, cond}
 use mathlib.Core.List.{List}
@@ -23,7 +24,8 @@ unfolding reachFrom reachTo
 reach-some k n i K h = go (oneBlock k n i)
   where
     go : (b : Bool)
-        → cond b (k * (low (radius k) i / k)) (low (radius k) i) ≤ cond b (min (k * (low (radius k) i / k) + k - 1) (n - 1)) (high (radius k) n i)
+        → cond b (k * (low (radius k) i / k)) (low (radius k) i)
+        ≤ cond b (min (k * (low (radius k) i / k) + k - 1) (n - 1)) (high (radius k) n i)
     go true = omega (arith, div-add-mod (low (radius k) i) k)
     go false = omega arith
 
@@ -40,20 +42,24 @@ pub length-swept : (op : ℕ → ℕ → ℕ) (kw kh w h : ℕ) (p : List ℕ) �
 unfolding sweptRect
 length-swept op kw kh w h p = length-plane w h (λ x y. foldBox op (pixel p w) (reachBox kw kh w h x y))
 
-module _ {R : ℕ → ℕ → Type 0} {op : ℕ → ℕ → ℕ} (o : Order R op) (kw kh w h : ℕ) (X : 0 < kw) (Y : 0 < kh) (p : List ℕ) where
+module _ {R : ℕ → ℕ → Type 0} {op : ℕ → ℕ → ℕ} (o : Order R op)
+    (kw kh w h : ℕ) (X : 0 < kw) (Y : 0 < kh) (p : List ℕ) where
   some : (x y : ℕ) → x < w → y < h → Some (reachBox kw kh w h x y)
   some x y l m = record { across = reach-some kw w x X l; down = reach-some kh h y Y m }
 
   -- what erosion (`lowest`) and dilation (`highest`) are: at each pixel a bound of its reach that is attained there
   pub swept-extreme : (x y : ℕ) → x < w → y < h
-      → Extreme R (Inside (reachBox kw kh w h x y)) (λ q. pixel p w (q .0) (q .1)) (pixel (sweptRect op kw kh w h p) w x y)
+      → Extreme R (Inside (reachBox kw kh w h x y)) (λ q. pixel p w (q .0) (q .1))
+      (pixel (sweptRect op kw kh w h p) w x y)
   unfolding sweptRect
   swept-extreme x y l m =
-      rw (pixel-plane w h (λ x y. foldBox op (pixel p w) (reachBox kw kh w h x y)) x y l m) (fold-box-extreme o (pixel p w) (reachBox kw kh w h x y) (some x y l m))
+      rw (pixel-plane w h (λ x y. foldBox op (pixel p w) (reachBox kw kh w h x y)) x y l m)
+      (fold-box-extreme o (pixel p w) (reachBox kw kh w h x y) (some x y l m))
 
   -- and nothing else is
   pub is-swept : (q : List ℕ) → 0 < w → length q ≡ w * h
-      → ((x y : ℕ) → x < w → y < h → Extreme R (Inside (reachBox kw kh w h x y)) (λ q. pixel p w (q .0) (q .1)) (pixel q w x y))
+      → ((x y : ℕ) → x < w → y < h
+      → Extreme R (Inside (reachBox kw kh w h x y)) (λ q. pixel p w (q .0) (q .1)) (pixel q w x y))
       → q ≡ sweptRect op kw kh w h p
   unfolding sweptRect
   is-swept q W l each =

@@ -7,7 +7,7 @@ use mathlib.Core.List.{List}
 use lib.ListN.{length}
 use Rattle.image.specs.declared.Geometry.{Geometry}
 use Rattle.image.specs.Answers.{Answer, accepted, refused}
-use Rattle.image.specs.Plane.{plane, painted, picture}
+use Rattle.image.specs.Plane.{plane, picture, paintedOn}
 use Rattle.imgproc.specs.declared.reading.config.ReadingConfig.{ReadingConfig}
 use Rattle.imgproc.specs.declared.reading.ReadingCounts.{ReadingCounts}
 use Rattle.imgproc.specs.declared.reading.judging.Judgement.{Judgement}
@@ -59,11 +59,13 @@ isSkipped Skipped = true
 abbrev pub openedOf : ReadingConfig → ℕ → ℕ → List ℕ → List ℕ
 openedOf s w h p = opened (s .«opening_kernel») w h (divided (s .division) w h p)
 
--- the judgement of pixel (x, y) over the opened picture o: skipped where the skip of its tile holds, else dark at or below the threshold there
+-- the judgement of pixel (x, y) over the opened picture o: skipped where the skip of its tile holds, else dark at or
+-- below the threshold there, else light
 unfoldable pub judgedOver : ReadingConfig → ℕ → ℕ → List ℕ → ℕ → ℕ → Judgement
 unfolding skipOf atOrBelow
 judgedOver s w h o x y =
-    cond (skipOf (s .grid) w h o (x / s .grid .«tile_width») (y / s .grid .«tile_height»)) Skipped (cond (atOrBelow (s .sauvola) w h o x y) Dark Light)
+    cond (skipOf (s .grid) w h o (x / s .grid .«tile_width») (y / s .grid .«tile_height»)) Skipped
+    (cond (atOrBelow (s .sauvola) w h o x y) Dark Light)
 
 -- the judgement of pixel (x, y) of the packed source p
 unfoldable pub judged : ReadingConfig → ℕ → ℕ → List ℕ → ℕ → ℕ → Judgement
@@ -117,9 +119,17 @@ readingSettings s =
     gridSettings (s .grid) then
     sauvolaSettings (s .sauvola)
 
+-- the planes of w × h bytes that the byte workspace begins with
+abbrev pub planes : ℕ
+planes = 9
+
+-- where the skips of the tiles stand: after the planes
+abbrev pub marksAt : ℕ → ℕ → ℕ
+marksAt w h = planes * (w * h)
+
 -- the bytes that a reading asks for: 9wh + 2t
 abbrev pub readingBytes : TileThresholdConfig → ℕ → ℕ → ℕ
-readingBytes grid w h = 9 * (w * h) + 2 * tileCount grid w h
+readingBytes grid w h = marksAt w h + 2 * tileCount grid w h
 
 -- and the u64s: 2(w + 1)(h + 1) + 5t
 abbrev pub readingWords : TileThresholdConfig → ℕ → ℕ → ℕ
@@ -129,7 +139,8 @@ readingWords grid w h = tableEntries w h + 5 * tileCount grid w h
 abbrev pub readingRoom : Geometry → ReadingConfig → ℕ → ℕ → Conditions
 readingRoom g s bytes words =
     refusedIf
-    (ltb bytes (readingBytes (s .grid) (g .width) (g .height)) || ltb words (readingWords (s .grid) (g .width) (g .height)))
+    (ltb bytes (readingBytes (s .grid) (g .width) (g .height))
+    || ltb words (readingWords (s .grid) (g .width) (g .height)))
     WorkspaceTooSmall
 
 -- what a reading is lent
@@ -156,7 +167,8 @@ abbrev pub readAnswer : Read → Answer ReadingNumbers
 readAnswer (Counts c) = accepted (numbersOf c)
 readAnswer (Read·Refused e) = refused (errorNumber e)
 
--- what a reading with settings that are checked by a list of their own is refused for: the layouts; 5; the settings; the workspaces
+-- what a reading with settings that are checked by a list of their own is refused for: the layouts; 5; the settings;
+-- the workspaces
 abbrev pub readingConditionsBy : Conditions → ReadingLent → Conditions
 readingConditionsBy settings lent =
     pairConditions (length (lent .src)) (lent .source) (length (lent .dst)) (lent .target) then
@@ -173,10 +185,11 @@ numbersFrom lent = let g = lent .source in readingOf (lent .settings) (g .width)
 abbrev pub marksFrom : ReadingLent → List ℕ
 marksFrom lent =
     let g = lent .source in
-    painted (marked (lent .settings) (g .width) (g .height) (picture (lent .src) g)) (g .width) (g .height) (lent .target .stride) (lent .dst)
+    paintedOn (lent .dst) (lent .target) (marked (lent .settings) (g .width) (g .height) (picture (lent .src) g))
 
 -- a reading by a list of conditions: its answer, the destination's bytes, and both workspaces
-pub record ReadsBy (cs : Conditions) (lent : ReadingLent) (answer : Answer ReadingNumbers) (left : ReadingLeft) : Type 0 where
+pub record ReadsBy (cs : Conditions) (lent : ReadingLent) (answer : Answer ReadingNumbers) (left : ReadingLeft)
+    : Type 0 where
   pub answers : answer ≡ answerBy (first cs) (numbersFrom lent)
   pub leaves : left .dst ≡ leftBy (first cs) (marksFrom lent) (lent .dst)
   pub bytes-left : Lent (first cs) (lent .bytes) (left .bytes)

@@ -4,7 +4,17 @@ use mathlib.Core.Path.{_≡_, refl, sym, ap, ap₂, _∙_}
 use mathlib.Core.Bool.{Bool, true, false}
 use mathlib.Core.List.{List}
 use Prim.Native.Nat.{ℕ, zero, suc, _+_, _*_, _/_, _%_, _≤_, _<_}
-use native.Mathlib.Nat.{eq-or-lt-of-le, mod-lt, div-lt-iff-lt-mul, mul-comm, mul-zero, mul-one, mul-add, add-zero, add-suc}
+use native.Mathlib.Nat.{
+  eq-or-lt-of-le,
+  mod-lt,
+  div-lt-iff-lt-mul,
+  mul-comm,
+  mul-zero,
+  mul-one,
+  mul-add,
+  add-zero,
+  add-suc,
+}
 use native.Mathlib.Omega.{arith}
 use mathlib.Core.Logic.{⊎-elim}
 use lib.Arith.{digits-mod, digits-div}
@@ -34,14 +44,16 @@ pub adds-up : (s : ReadingConfig) (w h : ℕ) (p : List ℕ)
     → readingOf s w h p .dark + readingOf s w h p .light + readingOf s w h p .skipped ≡ w * h
 unfolding readingOf pixels
 adds-up s w h p =
-    let j : ℕ → Judgement = λ i. judged s w h p (i % w) (i / w) in three (λ i. isDark (j i)) (λ i. isLight (j i)) (λ i. isSkipped (j i)) (λ i. one-of (j i)) (w * h)
+    let j : ℕ → Judgement = λ i. judged s w h p (i % w) (i / w) in
+    three (λ i. isDark (j i)) (λ i. isLight (j i)) (λ i. isSkipped (j i)) (λ i. one-of (j i)) (w * h)
 
 -- a walk that counts none passes no index, and one that passes none counts none
 walk-none : (test : ℕ → Bool) (n : ℕ) → walk test n ≡ 0 → (i : ℕ) → i < n → test i ≡ false
 unfolding walk
 walk-none test zero e i l = absurd (omega arith)
 walk-none test (suc n) e i l =
-    ⊎-elim (λ q. last (test n) q refl) (λ q. walk-none test n (omega arith) i q) (eq-or-lt-of-le {n = i} {m = n} (omega arith))
+    ⊎-elim (λ q. last (test n) q refl) (λ q. walk-none test n (omega arith) i q)
+    (eq-or-lt-of-le {n = i} {m = n} (omega arith))
   where
     last : (b : Bool) → i ≡ n → test n ≡ b → test i ≡ false
     last false q t = ap test q ∙ t
@@ -51,7 +63,8 @@ no-walk : (test : ℕ → Bool) (n : ℕ) → ((i : ℕ) → i < n → test i �
 unfolding walk
 no-walk test zero h = refl
 no-walk test (suc n) h =
-    let z : bit (test n) ≡ 0 = ap bit (h n (omega arith)) in let w = no-walk test n (λ i l. h i (omega arith)) in omega arith
+    let z : bit (test n) ≡ 0 = ap bit (h n (omega arith)) in
+    let w = no-walk test n (λ i l. h i (omega arith)) in omega arith
 
 -- tests that agree on every pixel count the same pixels, and one that none passes counts none
 pub pixels-same : (w h : ℕ) (a b : ℕ → ℕ → Bool) → ((x y : ℕ) → a x y ≡ b x y) → pixels w h a ≡ pixels w h b
@@ -78,7 +91,8 @@ pub dark-none : (s : ReadingConfig) (w h : ℕ) (p : List ℕ) → 0 < w
     → ((x y : ℕ) → x < w → y < h → isDark (judged s w h p x y) ≡ false) → readingOf s w h p .dark ≡ 0
 unfolding readingOf pixels
 dark-none s w h p W n =
-    no-walk (λ i. isDark (judged s w h p (i % w) (i / w))) (w * h) (λ i l. n (i % w) (i / w) (mod-lt i W) (div-lt-iff-lt-mul W .1 (omega (arith, mul-comm w h))))
+    no-walk (λ i. isDark (judged s w h p (i % w) (i / w))) (w * h)
+    (λ i l. n (i % w) (i / w) (mod-lt i W) (div-lt-iff-lt-mul W .1 (omega (arith, mul-comm w h))))
 
 -- the comparisons stay below 24wh
 pub comparisons-below : (s : ReadingConfig) (w h : ℕ) → 0 < w → 0 < h → 0 < s .division .«structuring_element»

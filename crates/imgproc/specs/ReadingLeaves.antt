@@ -1,5 +1,5 @@
--- What an accepted reading leaves, drawn from its contract alone: what each byte of the destination holds afterwards, and that nothing but
--- settings and pixels counts. Assumes nothing.
+-- What an accepted reading leaves, drawn from its contract alone: what each byte of the destination holds afterwards,
+-- and that nothing but settings and pixels counts. Assumes nothing.
 use Prim.Native.Nat.{ℕ, _/_, _%_, _<_}
 use native.Mathlib.Omega.{arith}
 use mathlib.Core.Path.{_≡_, refl, sym, ap, ap₂, _∙_}
@@ -9,22 +9,38 @@ use lib.Dec.{ltb}
 use lib.ListN.{length, getD}
 use borrow.Author.Tests.{ltb-true}
 use Rattle.image.specs.LayoutLaws.{row-within}
-use Rattle.image.specs.Plane.{pixel, packed}
+use Rattle.image.specs.Plane.{pixel, packed, painted}
 use Rattle.image.specs.PlaneLaws.{pixel-plane, same-pixels}
 use Rattle.image.specs.PaintLaws.{length-painted, painted-byte, painted-pixel}
+use Rattle.image.specs.Views.{painted-sides}
 use Rattle.imgproc.specs.declared.reading.config.ReadingConfig.{ReadingConfig}
 use Rattle.imgproc.specs.declared.reading.judging.Judgement.{Judgement}
 use Rattle.imgproc.specs.declared.reading.judging.Judgement.the-variants.{Dark, Light, Skipped}
-use Rattle.imgproc.specs.Reading.{judged, readingOf, byteOf, marked, marksFrom}
-use Rattle.imgproc.specs.ReadingMeans.{AcceptedReading, settingsOf, wide, high, sourceOf, judgedHere, said, pair, numbers-are}
+use Rattle.imgproc.specs.Reading.{judged, readingOf, byteOf, marked}
+use Rattle.imgproc.specs.ReadingMeans.{
+  AcceptedReading,
+  settingsOf,
+  wide,
+  high,
+  sourceOf,
+  judgedHere,
+  said,
+  pair,
+  numbers-are,
+}
 
 module _ (a : AcceptedReading) where
   -- the stride of its destination
   abbrev stride : ℕ
   stride = a .lent .target .stride
 
-  left-is : a .left .dst ≡ marksFrom (a .lent)
-  left-is = a .reads .leaves ∙ rw (said a .0)
+  -- the marks are painted by the sides of its source
+  left-is : a .left .dst
+      ≡ painted (marked (settingsOf a) (wide a) (high a) (sourceOf a)) (wide a) (high a) stride (a .lent .dst)
+  left-is =
+      let p = pair a in
+      a .reads .leaves
+      ∙ rw (said a .0) (sym (painted-sides (a .lent .dst) (a .lent .target) _ (sym (p .wide)) (sym (p .high))))
 
   -- each pixel of the rows holds the byte of its judgement
   pub pixel-holds : (x y : ℕ) → x < wide a → y < high a
@@ -33,7 +49,9 @@ module _ (a : AcceptedReading) where
   pixel-holds x y X Y =
       let p = pair a in
       ap (λ (d : List ℕ). pixel d stride x y) left-is
-      ∙ painted-pixel _ (wide a) (high a) stride (a .lent .dst) x y X Y (omega (arith, p .wide, p .to .stride)) (omega (arith, p .wide, row-within (p .to) y (omega (arith, p .high))))
+      ∙ painted-pixel _ (wide a) (high a) stride (a .lent .dst) x y X Y
+      (omega (arith, p .wide, p .to .stride))
+      (omega (arith, p .wide, row-within (p .to) y (omega (arith, p .high))))
       ∙ pixel-plane (wide a) (high a) (λ x y. byteOf (settingsOf a .sauvola) (judgedHere a x y)) x y X Y
 
   -- one judged dark holds dark_value
@@ -57,7 +75,8 @@ module _ (a : AcceptedReading) where
   outside-holds i l n =
       ap (λ (d : List ℕ). getD d i 0) left-is
       ∙ painted-byte _ (wide a) (high a) stride (a .lent .dst) i l
-      ∙ kept _ _ (ltb (i % stride) (wide a)) (ltb (i / stride) (high a)) (λ t. n (ltb-true _ _ (t .0), ltb-true _ _ (t .1)))
+      ∙ kept _ _ (ltb (i % stride) (wide a)) (ltb (i / stride) (high a))
+      (λ t. n (ltb-true _ _ (t .0), ltb-true _ _ (t .1)))
     where
       kept : (b c : ℕ) (p q : Bool) → ((p ≡ true) × (q ≡ true) → ⊥) → cond (p && q) b c ≡ c
       kept b c true true n = absurd (n (refl, refl))
@@ -75,13 +94,16 @@ module _ {s t : ReadingConfig} {w v h k : ℕ} {p q : List ℕ} (S : s ≡ t) (W
   byte-same : (x y : ℕ) → byteOf (s .sauvola) (judged s w h p x y) ≡ byteOf (t .sauvola) (judged t v k q x y)
   byte-same x y = rw (S, W, H, P)
 
--- two accepted readings with equal settings, whose sources have the same pixels, agree on all four numbers and on every pixel of the rows:
--- strides, padding, tails, workspaces and destinations may differ
-module _ (a b : AcceptedReading) (settings : settingsOf a ≡ settingsOf b) (as-wide : wide a ≡ wide b) (as-high : high a ≡ high b)
-    (same : (x y : ℕ) → x < wide a → y < high a → pixel (a .lent .src) (a .lent .source .stride) x y ≡ pixel (b .lent .src) (b .lent .source .stride) x y) where
+-- two accepted readings with equal settings, whose sources have the same pixels, agree on all four numbers and on every
+-- pixel of the rows: strides, padding, tails, workspaces and destinations may differ
+module _ (a b : AcceptedReading) (settings : settingsOf a ≡ settingsOf b)
+    (as-wide : wide a ≡ wide b) (as-high : high a ≡ high b)
+    (same : (x y : ℕ) → x < wide a → y < high a
+    → pixel (a .lent .src) (a .lent .source .stride) x y ≡ pixel (b .lent .src) (b .lent .source .stride) x y) where
   one-picture : sourceOf a ≡ sourceOf b
   one-picture =
-      same-pixels (wide a) (high a) (a .lent .src) (b .lent .src) (a .lent .source .stride) (b .lent .source .stride) (pair a .from .wide) same
+      same-pixels (wide a) (high a) (a .lent .src) (b .lent .src) (a .lent .source .stride) (b .lent .source .stride)
+      (pair a .from .wide) same
       ∙ ap₂ (λ (w h : ℕ). packed (b .lent .src) w h (b .lent .source .stride)) as-wide as-high
 
   pub numbers-agree : a .numbers ≡ b .numbers

@@ -1,6 +1,6 @@
--- What an accepted reading means, drawn from its contract alone: which pixels are judged dark, light and skipped, that each count is the
--- number of just those pixels, and whose comparisons are reported. (What it leaves stands in ReadingLeaves, what a refused reading means
--- in RefusedExactly.) Assumes nothing.
+-- What an accepted reading means, drawn from its contract alone: which pixels are judged dark, light and skipped, that
+-- each count is the number of just those pixels, and whose comparisons are reported. (ReadingLeaves: what it leaves;
+-- RefusedExactly: when it is refused.) Assumes nothing.
 use Prim.Native.Nat.{ℕ, _+_, _*_, _/_, _≤_, _<_}
 use native.Mathlib.Omega.{arith}
 use mathlib.Core.Path.{_≡_, refl, sym, ap, ap₂, _∙_}
@@ -19,9 +19,18 @@ use Rattle.imgproc.specs.declared.morphology.Operation.the-variants.{Ope
 use Rattle.imgproc.specs.declared.ImgProcError.the-variants.{InvalidKernel}
 use Rattle.imgproc.specs.declared.Check.the-variants.{Accepted}
 use Rattle.imgproc.specs.Reach.{R}
-use Rattle.imgproc.specs.Refusals.{first, _then_, refusedIf, pairConditions, badKernel, divisionSettings, sauvolaSettings}
-use Rattle.imgproc.specs.RefusalLaws.{both-accepted, taken, not-refused, kernel-says, division-says, Pair, pair-says}
-use Rattle.imgproc.specs.Calls.{Loan, Left, Serves, conditionsOf}
+use Rattle.imgproc.specs.Refusals.{
+  Conditions,
+  first,
+  _then_,
+  refusedIf,
+  pairConditions,
+  badKernel,
+  divisionSettings,
+  sauvolaSettings,
+}
+use Rattle.imgproc.specs.RefusalLaws.{both-accepted, taken, not-refused, kernel-says, division-says, pair-says}
+use Rattle.imgproc.specs.Calls.{Loan, Left, Serves, conditionsOf, Paired}
 use Rattle.imgproc.specs.MorphologyCalls.{opening, closing}
 use Rattle.imgproc.specs.MorphologyLaws.{operation-walks}
 use Rattle.imgproc.specs.Grid.{skipOf}
@@ -103,8 +112,10 @@ module _ (s : ReadingConfig) (w h : ℕ) (p : List ℕ) (x y : ℕ) where
   unfolding judged judgedOver atOrBelow
   judged-by = refl
 
-  -- a pixel is judged dark exactly when its tile is not skipped and its flattened, opened value is at most the directly summed threshold
-  pub dark-exactly : (judged s w h p x y ≡ Dark) ↔ ((skipHere s w h p x y ≡ false) × (valueHere s w h p x y ≤ thresholdHere s w h p x y))
+  -- a pixel is judged dark exactly when its tile is not skipped and its flattened, opened value is at most the directly
+  -- summed threshold
+  pub dark-exactly : (judged s w h p x y ≡ Dark)
+      ↔ ((skipHere s w h p x y ≡ false) × (valueHere s w h p x y ≤ thresholdHere s w h p x y))
   dark-exactly = (
     λ d. let c =
         chosen-dark (skipHere s w h p x y) (atMost s w h p x y) (sym judged-by ∙ d) in (c .0, leb-true _ _ (c .1)),
@@ -112,7 +123,8 @@ module _ (s : ReadingConfig) (w h : ℕ) (p : List ℕ) (x y : ℕ) where
   )
 
   -- light exactly when its tile is not skipped and that value is above that threshold
-  pub light-exactly : (judged s w h p x y ≡ Light) ↔ ((skipHere s w h p x y ≡ false) × (thresholdHere s w h p x y < valueHere s w h p x y))
+  pub light-exactly : (judged s w h p x y ≡ Light)
+      ↔ ((skipHere s w h p x y ≡ false) × (thresholdHere s w h p x y < valueHere s w h p x y))
   light-exactly = (
     λ d. let c =
         chosen-light (skipHere s w h p x y) (atMost s w h p x y) (sym judged-by ∙ d) in (c .0, leb-false _ _ (c .1)),
@@ -154,14 +166,17 @@ module _ (a : AcceptedReading) where
   pub said : (first (readingConditions (a .lent)) ≡ Accepted) × (a .numbers ≡ numbersFrom (a .lent))
   said = taken (first (readingConditions (a .lent))) (a .reads .answers)
 
-  parts : (first (pairConditions (length (a .lent .src)) (a .lent .source) (length (a .lent .dst)) (a .lent .target)) ≡ Accepted)
-      × (first (readingSettings settingsOf) ≡ Accepted)
+  -- the layouts and the sizes are accepted, and the settings
+  abbrev pairs : Conditions
+  pairs = pairConditions (length (a .lent .src)) (a .lent .source) (length (a .lent .dst)) (a .lent .target)
+
+  parts : (first pairs ≡ Accepted) × (first (readingSettings settingsOf) ≡ Accepted)
   parts =
       let room = readingRoom (a .lent .source) settingsOf (length (a .lent .bytes)) (length (a .lent .words)) in
-      let pairs = pairConditions (length (a .lent .src)) (a .lent .source) (length (a .lent .dst)) (a .lent .target) in
-      let p = both-accepted pairs (readingSettings settingsOf then room) (said .0) in (p .0, both-accepted (readingSettings settingsOf) room (p .1) .0)
+      let p = both-accepted pairs (readingSettings settingsOf then room) (said .0) in
+      (p .0, both-accepted (readingSettings settingsOf) room (p .1) .0)
 
-  pub pair : Pair (length (a .lent .src)) (a .lent .source) (length (a .lent .dst)) (a .lent .target)
+  pub pair : Paired (length (a .lent .src)) (a .lent .source) (length (a .lent .dst)) (a .lent .target)
   pair = pair-says (length (a .lent .src)) (a .lent .source) (length (a .lent .dst)) (a .lent .target) (parts .0)
 
   -- ---- its numbers
@@ -170,31 +185,40 @@ module _ (a : AcceptedReading) where
   pub numbers-are : a .numbers ≡ readingOf settingsOf wide high sourceOf
   numbers-are = said .1
 
+  -- the tile of pixel (x, y) is skipped
+  abbrev pub tileSkipped : ℕ → ℕ → Bool
+  tileSkipped = skipHere settingsOf wide high sourceOf
+
+  -- its value is at most its threshold
+  abbrev pub darkEnough : ℕ → ℕ → Bool
+  darkEnough = atMost settingsOf wide high sourceOf
+
+  judged-here : (x y : ℕ) → judgedHere x y ≡ cond (tileSkipped x y) Skipped (cond (darkEnough x y) Dark Light)
+  judged-here = judged-by settingsOf wide high sourceOf
+
   -- dark is the number of pixels whose tile is not skipped and whose value is at most the threshold
-  pub dark-counted : a .numbers .dark
-      ≡ pixels wide high (λ x y. not (skipHere settingsOf wide high sourceOf x y) && atMost settingsOf wide high sourceOf x y)
+  pub dark-counted : a .numbers .dark ≡ pixels wide high (λ x y. not (tileSkipped x y) && darkEnough x y)
   unfolding readingOf
   dark-counted =
       ap (λ (n : ReadingNumbers). n .dark) numbers-are
-      ∙ pixels-same wide high (λ x y. isDark (judgedHere x y)) (λ x y. not (skipHere settingsOf wide high sourceOf x y) && atMost settingsOf wide high sourceOf x y)
-      (λ x y. ap isDark (judged-by settingsOf wide high sourceOf x y) ∙ tests-dark (skipHere settingsOf wide high sourceOf x y) (atMost settingsOf wide high sourceOf x y))
+      ∙ pixels-same wide high (λ x y. isDark (judgedHere x y)) (λ x y. not (tileSkipped x y) && darkEnough x y)
+      (λ x y. ap isDark (judged-here x y) ∙ tests-dark (tileSkipped x y) (darkEnough x y))
 
-  -- light the number of those whose tile is not skipped and whose value is above it
-  pub light-counted : a .numbers .light
-      ≡ pixels wide high (λ x y. not (skipHere settingsOf wide high sourceOf x y) && not (atMost settingsOf wide high sourceOf x y))
+  -- light is the number of those whose tile is not skipped and whose value is above it
+  pub light-counted : a .numbers .light ≡ pixels wide high (λ x y. not (tileSkipped x y) && not (darkEnough x y))
   unfolding readingOf
   light-counted =
       ap (λ (n : ReadingNumbers). n .light) numbers-are
-      ∙ pixels-same wide high (λ x y. isLight (judgedHere x y)) (λ x y. not (skipHere settingsOf wide high sourceOf x y) && not (atMost settingsOf wide high sourceOf x y))
-      (λ x y. ap isLight (judged-by settingsOf wide high sourceOf x y) ∙ tests-light (skipHere settingsOf wide high sourceOf x y) (atMost settingsOf wide high sourceOf x y))
+      ∙ pixels-same wide high (λ x y. isLight (judgedHere x y)) (λ x y. not (tileSkipped x y) && not (darkEnough x y))
+      (λ x y. ap isLight (judged-here x y) ∙ tests-light (tileSkipped x y) (darkEnough x y))
 
-  -- skipped the number of those whose tile is skipped
-  pub skipped-counted : a .numbers .skipped ≡ pixels wide high (skipHere settingsOf wide high sourceOf)
+  -- skipped is the number of those whose tile is skipped
+  pub skipped-counted : a .numbers .skipped ≡ pixels wide high tileSkipped
   unfolding readingOf
   skipped-counted =
       ap (λ (n : ReadingNumbers). n .skipped) numbers-are
-      ∙ pixels-same wide high (λ x y. isSkipped (judgedHere x y)) (skipHere settingsOf wide high sourceOf)
-      (λ x y. ap isSkipped (judged-by settingsOf wide high sourceOf x y) ∙ tests-skipped (skipHere settingsOf wide high sourceOf x y) (atMost settingsOf wide high sourceOf x y))
+      ∙ pixels-same wide high (λ x y. isSkipped (judgedHere x y)) tileSkipped
+      (λ x y. ap isSkipped (judged-here x y) ∙ tests-skipped (tileSkipped x y) (darkEnough x y))
 
   -- the three counts add up to w × h
   pub add-up : a .numbers .dark + a .numbers .light + a .numbers .skipped ≡ wide * high
@@ -205,7 +229,9 @@ module _ (a : AcceptedReading) where
   pub floor-0-skips-none : settingsOf .grid .«contrast_floor» ≡ 0 → a .numbers .skipped ≡ 0
   floor-0-skips-none z =
       skipped-counted
-      ∙ pixels-empty wide high (skipHere settingsOf wide high sourceOf) (λ x y. floor-0 (settingsOf .grid) wide high (openedOf settingsOf wide high sourceOf) (x / settingsOf .grid .«tile_width») (y / settingsOf .grid .«tile_height») z)
+      ∙ pixels-empty wide high tileSkipped
+      (λ x y. floor-0 (settingsOf .grid) wide high (openedOf settingsOf wide high sourceOf)
+      (x / settingsOf .grid .«tile_width») (y / settingsOf .grid .«tile_height») z)
 
   kernels : (3 ≤ settingsOf .division .«structuring_element») × (3 ≤ settingsOf .«opening_kernel»)
   unfolding readingSettings
@@ -217,14 +243,19 @@ module _ (a : AcceptedReading) where
       (division-says (settingsOf .division) (p .0) .0, kernel-says (settingsOf .«opening_kernel») q)
 
   -- the comparisons are 2R(k) + 2R(m), below 24wh
-  pub compared : (a .numbers .comparisons ≡ comparisonsOf settingsOf wide high) × (a .numbers .comparisons < 24 * (wide * high))
+  pub compared : (a .numbers .comparisons ≡ comparisonsOf settingsOf wide high)
+      × (a .numbers .comparisons < 24 * (wide * high))
   unfolding readingOf
   compared =
-      let e : a .numbers .comparisons ≡ comparisonsOf settingsOf wide high = ap (λ (n : ReadingNumbers). n .comparisons) numbers-are in
-      let below = comparisons-below settingsOf wide high (pair .from .wide) (pair .from .high) (omega (arith, kernels .0)) (omega (arith, kernels .1)) in
+      let e : a .numbers .comparisons ≡ comparisonsOf settingsOf wide high =
+      ap (λ (n : ReadingNumbers). n .comparisons) numbers-are in
+      let below =
+      comparisons-below settingsOf wide high (pair .from .wide) (pair .from .high)
+      (omega (arith, kernels .0)) (omega (arith, kernels .1)) in
       (e, omega (arith, below))
 
-  -- they are those of its two operations: what a closing with k and an opening with m of pictures of that size answer, together
+  -- they are those of its two operations: what a closing with k and an opening with m of pictures of that size answer,
+  -- together
   pub compared-as-called :
       {close open′ : Loan ℕ} {closeLeft openLeft : Left} {c o : ℕ}
       → Serves closing close (accepted c) closeLeft
@@ -235,8 +266,12 @@ module _ (a : AcceptedReading) where
       → (open′ .source .width ≡ wide) × (open′ .source .height ≡ high)
       → a .numbers .comparisons ≡ c + o
   compared-as-called {close} {open′} {c = c} {o = o} closed opened k m cs os =
-      let x : c ≡ 2 * R (settingsOf .division .«structuring_element») wide high =
-      taken (first (conditionsOf closing close)) (closed .answers) .1 ∙ rw (k, cs .0, cs .1) (operation-walks Close (settingsOf .division .«structuring_element») wide high (omega (arith, kernels .0))) in
-      let y : o ≡ 2 * R (settingsOf .«opening_kernel») wide high =
-      taken (first (conditionsOf opening open′)) (opened .answers) .1 ∙ rw (m, os .0, os .1) (operation-walks Open (settingsOf .«opening_kernel») wide high (omega (arith, kernels .1))) in
+      let element = settingsOf .division .«structuring_element» in
+      let kernel = settingsOf .«opening_kernel» in
+      let x : c ≡ 2 * R element wide high =
+      taken (first (conditionsOf closing close)) (closed .answers) .1
+      ∙ rw (k, cs .0, cs .1) (operation-walks Close element wide high (omega (arith, kernels .0))) in
+      let y : o ≡ 2 * R kernel wide high =
+      taken (first (conditionsOf opening open′)) (opened .answers) .1
+      ∙ rw (m, os .0, os .1) (operation-walks Open kernel wide high (omega (arith, kernels .1))) in
       compared .0 ∙ ap₂ (λ (i j : ℕ). i + j) (sym x) (sym y)

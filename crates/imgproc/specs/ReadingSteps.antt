@@ -5,7 +5,7 @@ use mathlib.Core.List.{List}
 use lib.ListN.{length, getD}
 use Rattle.image.specs.declared.Geometry.{Geometry}
 use Rattle.image.specs.Layout.{Kept}
-use Rattle.image.specs.Plane.{plane, painted, part, picture}
+use Rattle.image.specs.Plane.{plane, paintedOn, part, picture}
 use Rattle.imgproc.specs.declared.reading.config.ReadingConfig.{ReadingConfig}
 use Rattle.imgproc.specs.declared.reading.ReadingCounts.{ReadingCounts}
 use Rattle.imgproc.specs.declared.reading.judging.Judged.{Judged}
@@ -14,9 +14,24 @@ use Rattle.imgproc.specs.Tallies.{Raised, HasRoom}
 use Rattle.imgproc.specs.Reach.{walk, sweepWalks}
 use Rattle.imgproc.specs.Grid.{tilesX, tilesY, skips}
 use Rattle.imgproc.specs.Refusals.{tableEntries}
-use Rattle.imgproc.specs.GridCalls.{tileCount}
 use Rattle.imgproc.specs.Tables.{InRange, Ready}
-use Rattle.imgproc.specs.Reading.{isDark, isLight, isSkipped, openedOf, judgedOver, pixels, numbersOf, readingOf, byteOf, marked}
+use Rattle.imgproc.specs.Calls.{Paired}
+use Rattle.imgproc.specs.Reading.{
+  isDark,
+  isLight,
+  isSkipped,
+  openedOf,
+  judgedOver,
+  pixels,
+  byteOf,
+  readingBytes,
+  readingWords,
+  ReadingLent,
+  ReadingLeft,
+  numbersOf,
+  numbersFrom,
+  marksFrom,
+}
 
 -- the opened picture, packed, its skips as bytes, and its tables: what a judgement goes by
 pub record JudgeReady (o : List ℕ) (g : Geometry) (sk ws : List ℕ) (at : ℕ) (s : ReadingConfig) : Type 0 where
@@ -34,7 +49,8 @@ pub record Room (j : Judged) (n : ℕ) : Type 0 where
   pub skipped : j .skipped + n < 2 ^ 64
 
 -- the first n pixels of row y of the opened picture o judged: each byte, and each count raised by the pixels so judged
-pub record PixelsJudged (before : Judged) (s : ReadingConfig) (g : Geometry) (o : List ℕ) (y n : ℕ) (after : Judged) (out : List ℕ) : Type 0 where
+pub record PixelsJudged (before : Judged) (s : ReadingConfig) (g : Geometry) (o : List ℕ) (y n : ℕ)
+    (after : Judged) (out : List ℕ) : Type 0 where
   pub each : (x : ℕ) → x < n → getD out x 0 ≡ byteOf (s .sauvola) (judgedOver s (g .width) (g .height) o x y)
   pub dark : after .dark ≡ before .dark + walk (λ x. isDark (judgedOver s (g .width) (g .height) o x y)) n
   pub light : after .light ≡ before .light + walk (λ x. isLight (judgedOver s (g .width) (g .height) o x y)) n
@@ -50,11 +66,13 @@ unfolding judgedOver
 markedOver s w h o = plane w h (λ x y. byteOf (s .sauvola) (judgedOver s w h o x y))
 
 -- every pixel judged: the rows of the destination, and the three counts
-pub record PictureJudged (s : ReadingConfig) (g : Geometry) (o dst : List ℕ) (stride : ℕ) (j : Judged) (dst′ : List ℕ) : Type 0 where
-  pub leaves : dst′ ≡ painted (markedOver s (g .width) (g .height) o) (g .width) (g .height) stride dst
+pub record PictureJudged (s : ReadingConfig) (g : Geometry) (o dst : List ℕ) (target : Geometry)
+    (j : Judged) (dst′ : List ℕ) : Type 0 where
+  pub leaves : dst′ ≡ paintedOn dst target (markedOver s (g .width) (g .height) o)
   pub dark : j .dark ≡ pixels (g .width) (g .height) (λ x y. isDark (judgedOver s (g .width) (g .height) o x y))
   pub light : j .light ≡ pixels (g .width) (g .height) (λ x y. isLight (judgedOver s (g .width) (g .height) o x y))
-  pub skipped : j .skipped ≡ pixels (g .width) (g .height) (λ x y. isSkipped (judgedOver s (g .width) (g .height) o x y))
+  pub skipped :
+      j .skipped ≡ pixels (g .width) (g .height) (λ x y. isSkipped (judgedOver s (g .width) (g .height) o x y))
 
 -- a picture flattened and opened in the workspace
 pub record OpenReady (tally : Tally) (src : List ℕ) (g : Geometry) (s : ReadingConfig) (ws : List ℕ) : Type 0 where
@@ -65,7 +83,8 @@ pub record OpenReady (tally : Tally) (src : List ℕ) (g : Geometry) (s : Readin
   pub fits : 6 * (g .width * g .height) ≤ length ws
   pub room : HasRoom tally (24 * (g .width * g .height))
 
-pub record Opened (tally : Tally) (src : List ℕ) (g : Geometry) (s : ReadingConfig) (ws : List ℕ) (raised : Tally) (ws′ : List ℕ) : Type 0 where
+pub record Opened (tally : Tally) (src : List ℕ) (g : Geometry) (s : ReadingConfig) (ws : List ℕ)
+    (raised : Tally) (ws′ : List ℕ) : Type 0 where
   pub leaves : part 0 (g .width * g .height) ws′ ≡ openedOf s (g .width) (g .height) (picture src g)
   pub counted :
       Raised tally
@@ -74,45 +93,54 @@ pub record Opened (tally : Tally) (src : List ℕ) (g : Geometry) (s : ReadingCo
       raised
   pub long : length ws′ ≡ length ws
 
--- the skips of the opened picture, which stands packed at the workspace's start, written after nine planes
-pub record MarkReady (g : Geometry) (s : ReadingConfig) (bytes words : List ℕ) : Type 0 where
+-- the skips of the opened picture, which stands packed at the workspace's start, written from `at` on
+pub record MarkReady (g : Geometry) (s : ReadingConfig) (at : ℕ) (bytes words : List ℕ) : Type 0 where
   pub layout : Kept (g .width * g .height) g
   pub tight : g .stride ≡ g .width
   pub tile-width : 0 < s .grid .«tile_width»
   pub tile-height : 0 < s .grid .«tile_height»
-  pub bytes-fit : 9 * (g .width * g .height) + tilesX (s .grid) (g .width) * tilesY (s .grid) (g .height) ≤ length bytes
+  pub behind : g .width * g .height ≤ at
+  pub bytes-fit : at + tilesX (s .grid) (g .width) * tilesY (s .grid) (g .height) ≤ length bytes
   pub words-fit : 5 * (tilesX (s .grid) (g .width) * tilesY (s .grid) (g .height)) ≤ length words
 
-pub record Marks (g : Geometry) (s : ReadingConfig) (bytes words bytes′ words′ : List ℕ) : Type 0 where
+pub record Marks (g : Geometry) (s : ReadingConfig) (at : ℕ) (bytes words bytes′ words′ : List ℕ) : Type 0 where
   pub opened : part 0 (g .width * g .height) bytes′ ≡ part 0 (g .width * g .height) bytes
-  pub skips : part (9 * (g .width * g .height)) (tilesX (s .grid) (g .width) * tilesY (s .grid) (g .height)) bytes′ ≡ skips (s .grid) (g .width) (g .height) (part 0 (g .width * g .height) bytes)
+  pub skips :
+      part at (tilesX (s .grid) (g .width) * tilesY (s .grid) (g .height)) bytes′
+      ≡ skips (s .grid) (g .width) (g .height) (part 0 (g .width * g .height) bytes)
   pub bytes-long : length bytes′ ≡ length bytes
   pub words-long : length words′ ≡ length words
 
 -- the opened picture and its marks stand in the byte workspace, and the u64 workspace has room for the tables
-pub record JudgeRoom (g : Geometry) (s : ReadingConfig) (bytes words : List ℕ) : Type 0 where
-  pub marks : MarkReady g s bytes words
-  pub skips : part (9 * (g .width * g .height)) (tilesX (s .grid) (g .width) * tilesY (s .grid) (g .height)) bytes ≡ skips (s .grid) (g .width) (g .height) (part 0 (g .width * g .height) bytes)
+pub record JudgeRoom (g : Geometry) (s : ReadingConfig) (at : ℕ) (bytes words : List ℕ) : Type 0 where
+  pub marks : MarkReady g s at bytes words
+  pub skips :
+      part at (tilesX (s .grid) (g .width) * tilesY (s .grid) (g .height)) bytes
+      ≡ skips (s .grid) (g .width) (g .height) (part 0 (g .width * g .height) bytes)
   pub tables-fit : tableEntries (g .width) (g .height) ≤ length words
   pub settings : InRange (s .sauvola)
 
--- the work of an accepted reading
-pub record ReadReady (src : List ℕ) (source : Geometry) (dst : List ℕ) (target : Geometry) (s : ReadingConfig) (bytes words : List ℕ) : Type 0 where
-  pub from : Kept (length src) source
-  pub to : Kept (length dst) target
-  pub wide : source .width ≡ target .width
-  pub high : source .height ≡ target .height
+-- what accepted settings say (`says` of proofs/reading/Ways)
+pub record Usable (s : ReadingConfig) : Type 0 where
   pub element : 0 < s .division .«structuring_element»
   pub floor : 0 < s .division .«denominator_floor»
   pub kernel : 0 < s .«opening_kernel»
   pub tile-width : 0 < s .grid .«tile_width»
   pub tile-height : 0 < s .grid .«tile_height»
-  pub settings : InRange (s .sauvola)
-  pub bytes-fit : 9 * (source .width * source .height) + 2 * tileCount (s .grid) (source .width) (source .height) ≤ length bytes
-  pub words-fit : tableEntries (source .width) (source .height) + 5 * tileCount (s .grid) (source .width) (source .height) ≤ length words
+  pub sauvola : InRange (s .sauvola)
 
-pub record ReadDone (src : List ℕ) (source : Geometry) (dst : List ℕ) (target : Geometry) (s : ReadingConfig) (bytes words : List ℕ) (counts : ReadingCounts) (dst′ bytes′ words′ : List ℕ) : Type 0 where
-  pub counted : numbersOf counts ≡ readingOf s (source .width) (source .height) (picture src source)
-  pub leaves : dst′ ≡ painted (marked s (source .width) (source .height) (picture src source)) (source .width) (source .height) (target .stride) dst
-  pub bytes-long : length bytes′ ≡ length bytes
-  pub words-long : length words′ ≡ length words
+-- what the work of an accepted reading asks
+pub record ReadReady (lent : ReadingLent) : Type 0 where
+  pub pair : Paired (length (lent .src)) (lent .source) (length (lent .dst)) (lent .target)
+  pub settings : Usable (lent .settings)
+  pub bytes-fit :
+      readingBytes (lent .settings .grid) (lent .source .width) (lent .source .height) ≤ length (lent .bytes)
+  pub words-fit :
+      readingWords (lent .settings .grid) (lent .source .width) (lent .source .height) ≤ length (lent .words)
+
+-- and what it leaves
+pub record ReadDone (lent : ReadingLent) (counts : ReadingCounts) (left : ReadingLeft) : Type 0 where
+  pub counted : numbersOf counts ≡ numbersFrom lent
+  pub leaves : left .dst ≡ marksFrom lent
+  pub bytes-long : length (left .bytes) ≡ length (lent .bytes)
+  pub words-long : length (left .words) ≡ length (lent .words)

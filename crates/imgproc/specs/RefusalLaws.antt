@@ -31,6 +31,7 @@ use Rattle.imgproc.specs.Refusals.{
   badKernel,
   divisionSettings,
 }
+use Rattle.imgproc.specs.Calls.{Paired}
 
 never : (e : ImgProcError) → Refused e ≡ Accepted → ⊥
 never e p = let z : _≡_ {A = ℕ} 0 1 = cc in omega arith
@@ -54,7 +55,8 @@ first-then [] b = refl
 first-then (c ∷ cs) b = step (c .fits) (first-then cs b)
   where
     step : (f : Bool) → first (cs then b) ≡ follow (first cs) (first b)
-        → cond f (Refused (c .refusal)) (first (cs then b)) ≡ follow (cond f (Refused (c .refusal)) (first cs)) (first b)
+        → cond f (Refused (c .refusal)) (first (cs then b))
+        ≡ follow (cond f (Refused (c .refusal)) (first cs)) (first b)
     step true p = refl
     step false p = p
 
@@ -117,7 +119,8 @@ layout-on g [] = refl
 layout-on g (c ∷ cs) = step (c .fits) (layout-on g cs)
   where
     step : (f : Bool) → first (passedOn cs) ≡ layoutCheck (layoutBy g cs)
-        → cond f (Refused (Image (c .refusal))) (first (passedOn cs)) ≡ layoutCheck (cond f (Invalid (c .refusal)) (layoutBy g cs))
+        → cond f (Refused (Image (c .refusal))) (first (passedOn cs))
+        ≡ layoutCheck (cond f (Invalid (c .refusal)) (layoutBy g cs))
     step true p = refl
     step false p = p
 
@@ -150,8 +153,9 @@ pub division-says : (d : BackgroundDivideConfig) → first (divisionSettings d) 
     → (3 ≤ d .«structuring_element») × (0 < d .«denominator_floor»)
 unfolding divisionSettings
 division-says d p =
+    let element = badKernel (d .«structuring_element») in
     let floor = eqb (d .«denominator_floor») 0 in
-    let n = neither (badKernel (d .«structuring_element»)) floor (not-refused (badKernel (d .«structuring_element») || floor) InvalidConfiguration p) in
+    let n = neither element floor (not-refused (element || floor) InvalidConfiguration p) in
     (kernel-says (d .«structuring_element») (n .0), pos-of-ne-zero (eqb-false (d .«denominator_floor») 0 (n .1)))
 
 -- ---- two pictures
@@ -160,32 +164,29 @@ division-says d p =
 pub source-refused : (srcLen : ℕ) (src : Geometry) (dstLen : ℕ) (dst : Geometry) (rest : Conditions) {e : LumaError}
     → layoutOf srcLen src ≡ Invalid e → first (pairConditions srcLen src dstLen dst then rest) ≡ Refused (Image e)
 source-refused srcLen src dstLen dst rest i =
-    then-refused (pairConditions srcLen src dstLen dst) rest (then-refused (viewConditions srcLen src) _ (view-refused srcLen src i))
+    then-refused (pairConditions srcLen src dstLen dst) rest
+    (then-refused (viewConditions srcLen src) _ (view-refused srcLen src i))
 
 -- two layouts that their slices hold, of one size, are accepted
 pub pair-taken : {srcLen : ℕ} {src : Geometry} {dstLen : ℕ} {dst : Geometry} → Kept srcLen src → Kept dstLen dst
     → src .width ≡ dst .width → src .height ≡ dst .height → first (pairConditions srcLen src dstLen dst) ≡ Accepted
 pair-taken {srcLen} {src} {dstLen} {dst} s d w h =
     let last = refusedIf (not (eqb (src .width) (dst .width) && eqb (src .height) (dst .height))) DimensionMismatch in
-    then-accepted (viewConditions srcLen src) (viewConditions dstLen dst then last) (view-accepted srcLen src (kept-valid s))
+    then-accepted (viewConditions srcLen src) (viewConditions dstLen dst then last)
+    (view-accepted srcLen src (kept-valid s))
     ∙ then-accepted (viewConditions dstLen dst) last (view-accepted dstLen dst (kept-valid d))
     ∙ passes-last _ _ (rw (eq-eqb (src .width) (dst .width) w, eq-eqb (src .height) (dst .height) h))
 
--- what an accepted pair says: each slice holds its picture, and the sizes are equal
-pub record Pair (srcLen : ℕ) (src : Geometry) (dstLen : ℕ) (dst : Geometry) : Type 0 where
-  pub from : Kept srcLen src
-  pub to : Kept dstLen dst
-  pub wide : src .width ≡ dst .width
-  pub high : src .height ≡ dst .height
-
+-- what an accepted pair says
 pub pair-says : (srcLen : ℕ) (src : Geometry) (dstLen : ℕ) (dst : Geometry)
-    → first (pairConditions srcLen src dstLen dst) ≡ Accepted → Pair srcLen src dstLen dst
+    → first (pairConditions srcLen src dstLen dst) ≡ Accepted → Paired srcLen src dstLen dst
 pair-says srcLen src dstLen dst p =
     let sizes = eqb (src .width) (dst .width) && eqb (src .height) (dst .height) in
     let last = refusedIf (not sizes) DimensionMismatch in
     let a = both-accepted (viewConditions srcLen src) (viewConditions dstLen dst then last) p in
     let b = both-accepted (viewConditions dstLen dst) last (a .1) in
-    let c = both (eqb (src .width) (dst .width)) (eqb (src .height) (dst .height)) (not-false sizes (not-refused (not sizes) DimensionMismatch (b .1))) in
+    let agree = not-false sizes (not-refused (not sizes) DimensionMismatch (b .1)) in
+    let c = both (eqb (src .width) (dst .width)) (eqb (src .height) (dst .height)) agree in
     record {
       from = view-kept srcLen src (a .0);
       to = view-kept dstLen dst (b .0);

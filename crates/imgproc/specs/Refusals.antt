@@ -1,4 +1,5 @@
--- What is refused, and with which number: each call has a list of conditions, and the first that fits counts. Definitions only.
+-- What is refused, and with which number: each call has a list of conditions, and the first that fits counts.
+-- Definitions only.
 use Prim.Native.Nat.{ℕ, _+_, _*_, _%_}
 use mathlib.Core.Path.{_≡_}
 use mathlib.Core.Bool.{Bool, cond, not, _&&_, _||_}
@@ -113,7 +114,8 @@ elementAndRoom d g room =
 -- Sauvola: radius 0, k_milli above 1,000 or dynamic_range 0 is 7
 unfoldable pub sauvolaSettings : SauvolaConfig → Conditions
 sauvolaSettings config =
-    refusedIf (eqb (config .radius) 0 || (ltb 1000 (config .«k_milli») || eqb (config .«dynamic_range») 0)) InvalidConfiguration
+    refusedIf (eqb (config .radius) 0 || (ltb 1000 (config .«k_milli») || eqb (config .«dynamic_range») 0))
+    InvalidConfiguration
 
 -- the entries of the two tables of a picture of w by h: 2(w + 1)(h + 1)
 abbrev pub tableEntries : ℕ → ℕ → ℕ

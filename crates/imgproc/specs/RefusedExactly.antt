@@ -1,5 +1,6 @@
--- When a call of this crate is refused: with n exactly when n is the number of the first condition of its list that fits, and then every
--- lent buffer is as it was; accepted exactly when none fits. (FirstFits and Exactly are image's.) Assumes nothing.
+-- When a call of this crate is refused: with n exactly when n is the number of the first condition of its list that
+-- fits, and then every lent buffer is as it was; accepted exactly when none fits. (FirstFits and Exactly are image's.)
+-- Assumes nothing.
 use Prim.Native.Nat.{ℕ}
 use mathlib.Core.Path.{_≡_, refl, sym, _∙_}
 use mathlib.Core.Bool.{Bool, true, false, cond}
@@ -43,7 +44,8 @@ answer-is [] v = refl
 answer-is (c ∷ cs) v = step (c .fits) (answer-is cs v)
   where
     step : (f : Bool) → answerBy (first cs) v ≡ answerTo (numbers cs) v
-        → answerBy (cond f (Refused (c .refusal)) (first cs)) v ≡ cond f (refused (errorNumber (c .refusal))) (answerTo (numbers cs) v)
+        → answerBy (cond f (Refused (c .refusal)) (first cs)) v
+        ≡ cond f (refused (errorNumber (c .refusal))) (answerTo (numbers cs) v)
     step true p = refl
     step false p = p
 
@@ -63,7 +65,8 @@ module _ {A : Type 0} (values : A) where
   turned (Refused e) p = record { kind = e; is = refl }
 
 -- ---- erosion, dilation, opening, closing, division, Sauvola: every call from picture to picture
-module _ {S A : Type 0} {operator : Operator S A} {lent : Loan S} {answer : Answer A} {left : Left} (serves : Serves operator lent answer left) where
+module _ {S A : Type 0} {operator : Operator S A} {lent : Loan S} {answer : Answer A} {left : Left}
+    (serves : Serves operator lent answer left) where
   abbrev callValues : A
   callValues = operator .values (lent .settings) (lent .source .width) (lent .source .height)
 
@@ -97,11 +100,14 @@ module _ (q : TileThresholdGrid) (d : List ℕ) where
   skip-exactly x y = by-list (skipped d (tileOf q x y)) (pixelConditions q (length d) x y) refl
 
   pub row-skip-exactly : (y : ℕ)
-      → Exactly (numbers (rowConditions q (length d) y)) (allSkipped d (tileRowOf q y) (q .«tiles_x»)) (rowSkipAsked q d y)
+      → Exactly (numbers (rowConditions q (length d) y))
+      (allSkipped d (tileRowOf q y) (q .«tiles_x»))
+      (rowSkipAsked q d y)
   row-skip-exactly y = by-list (allSkipped d (tileRowOf q y) (q .«tiles_x»)) (rowConditions q (length d) y) refl
 
 -- ---- the reading
-module _ {lent : ReadingLent} {answer : Answer ReadingNumbers} {left : ReadingLeft} (reads : Reads lent answer left) where
+module _ {lent : ReadingLent} {answer : Answer ReadingNumbers} {left : ReadingLeft}
+    (reads : Reads lent answer left) where
   pub reading-exactly : Exactly (numbers (readingConditions lent)) (numbersFrom lent) answer
   reading-exactly = by-list (numbersFrom lent) (readingConditions lent) (reads .answers)
 

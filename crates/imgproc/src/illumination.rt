@@ -18,10 +18,9 @@ ghost use Rattle.imgproc.specs.Division.{
   FlattenReady,
   Flattened,
   DivideReady,
-  Divided,
   division,
 };
-ghost use Rattle.imgproc.specs.Calls.{Serves};
+ghost use Rattle.imgproc.specs.Calls.{Serves, Works};
 ghost use Rattle.imgproc.specs.MorphologyCalls.{comparedAnswer};
 
 pub struct BackgroundDivideConfig {
@@ -98,7 +97,7 @@ pub(crate) fn flatten(
     raised
 }
 
-// The work of an accepted call: one tally, started at 0, through the closing.
+// Does the work of an accepted call: one tally, started at 0, goes through the closing.
 fn divide_picture(
     src: &[u8],
     src_geometry: Geometry,
@@ -107,8 +106,31 @@ fn divide_picture(
     config: BackgroundDivideConfig,
     workspace: &mut [u8],
 ) -> Tally
-    requires { ⌜ DivideReady (now src) «src_geometry» (now dst) «dst_geometry» config (now workspace) ⌝ }
-    ensures { λ n. ⌜ Divided (now (src .entry)) «src_geometry» (now (dst .entry)) «dst_geometry» config (now (workspace .entry)) n (now (dst .exit)) (now (workspace .exit)) ⌝ }
+    requires { ⌜
+        DivideReady
+        (record {
+          src = now src;
+          source = «src_geometry»;
+          dst = now dst;
+          target = «dst_geometry»;
+          settings = config;
+          workspace = now workspace;
+        })
+        ⌝ }
+    ensures { λ n.
+        ⌜
+        Works division
+        (record {
+          src = now (src .entry);
+          source = «src_geometry»;
+          dst = now (dst .entry);
+          target = «dst_geometry»;
+          settings = config;
+          workspace = now (workspace .entry);
+        })
+        n
+        (record { dst = now (dst .exit); workspace = now (workspace .exit) })
+        ⌝ }
 {
     let plane = src_geometry.width * src_geometry.height;
     let tally = flatten(start(), src, src_geometry, config, workspace);

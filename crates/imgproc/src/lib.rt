@@ -1,4 +1,4 @@
-// Operators on grey pictures: what each refuses, by kind and by number.
+// Operators on grey pictures. This file says why a call is refused: the kinds, and their numbers.
 pub mod grid;
 pub mod illumination;
 pub mod morphology;
@@ -21,13 +21,13 @@ pub enum ImgProcError {
     GridBufferTooSmall,
 }
 
-// Whether a call goes on.
+// Says whether a call goes on, or why not.
 pub enum Check {
     Accepted,
     Refused(ImgProcError),
 }
 
-// The number of a refusal.
+// Gives the number of a refusal.
 pub fn number(error: ImgProcError) -> u32
     ensures { λ r. ⌜ r ≡ errorNumber error ⌝ }
 {

@@ -1,5 +1,5 @@
-// Erosion, dilation, opening and closing of grey pictures with an odd square kernel, from a strided source to a
-// strided destination.
+// Erodes, dilates, opens and closes grey pictures with an odd square kernel, from a strided source to a strided
+// destination.
 pub(crate) mod rect;
 mod sweeps;
 pub mod tally;
@@ -12,8 +12,9 @@ use crate::morphology::tally::Tally;
 use crate::morphology::tally::start;
 use image::Geometry;
 use image::Layout;
-ghost use Rattle.imgproc.specs.MorphologyCalls.{OperateReady, Operated, CountReady, Counts, RunReady, Runs, comparedAnswer, morphology, erosion, dilation, opening, closing};
-ghost use Rattle.imgproc.specs.Calls.{Serves};
+ghost use Rattle.imgproc.specs.MorphologyCalls.{OperateReady, Operated, CountReady, Counts, RunReady};
+ghost use Rattle.imgproc.specs.MorphologyCalls.{comparedAnswer, morphology, erosion, dilation, opening, closing};
+ghost use Rattle.imgproc.specs.Calls.{Serves, Works};
 
 enum Operation {
     Erode,
@@ -22,13 +23,13 @@ enum Operation {
     Close,
 }
 
-// The tally of the comparisons that a call made, or its refusal.
+// What a call answers: the tally of the comparisons that it made, or its refusal.
 pub enum Compared {
     Comparisons(Tally),
     Refused(ImgProcError),
 }
 
-// An operation on the first plane of the workspace, left in the second.
+// Operates on the first plane of the workspace, and leaves the picture in the second.
 fn operate(
     tally: Tally,
     ws: &mut [u8],
@@ -65,7 +66,7 @@ fn operate(
     }
 }
 
-// One tally, started at 0, through an operation.
+// Starts a tally at 0 and takes it through an operation.
 fn count(ws: &mut [u8], kernel: usize, width: usize, height: usize, operation: Operation) -> Tally
     requires { ⌜ CountReady (now ws) kernel width height ⌝ }
     ensures { λ n. ⌜ Counts operation (now (ws .entry)) kernel width height n (now (ws .exit)) ⌝ }
@@ -73,7 +74,7 @@ fn count(ws: &mut [u8], kernel: usize, width: usize, height: usize, operation: O
     operate(start(), ws, kernel, width, height, operation)
 }
 
-// The work of an accepted call: packed, operated on, painted.
+// Does the work of an accepted call: packs the source, operates on it and paints the destination.
 fn run(
     src: &[u8],
     src_geometry: Geometry,
@@ -83,8 +84,31 @@ fn run(
     operation: Operation,
     workspace: &mut [u8],
 ) -> Tally
-    requires { ⌜ RunReady (now src) «src_geometry» (now dst) «dst_geometry» kernel (now workspace) ⌝ }
-    ensures { λ n. ⌜ Runs operation (now (src .entry)) «src_geometry» (now (dst .entry)) «dst_geometry» kernel (now (workspace .entry)) n (now (dst .exit)) (now (workspace .exit)) ⌝ }
+    requires { ⌜
+        RunReady
+        (record {
+          src = now src;
+          source = «src_geometry»;
+          dst = now dst;
+          target = «dst_geometry»;
+          settings = kernel;
+          workspace = now workspace;
+        })
+        ⌝ }
+    ensures { λ n.
+        ⌜
+        Works (morphology operation)
+        (record {
+          src = now (src .entry);
+          source = «src_geometry»;
+          dst = now (dst .entry);
+          target = «dst_geometry»;
+          settings = kernel;
+          workspace = now (workspace .entry);
+        })
+        n
+        (record { dst = now (dst .exit); workspace = now (workspace .exit) })
+        ⌝ }
 {
     let width = src_geometry.width;
     let height = src_geometry.height;
@@ -94,7 +118,7 @@ fn run(
     tally
 }
 
-// What each call refuses, in order, and then its work.
+// Refuses a call by its conditions, in order, and else does its work.
 fn apply_into(
     src: &[u8],
     src_geometry: Geometry,
@@ -145,7 +169,7 @@ fn apply_into(
     Compared::Comparisons(run(src, g, dst, h, kernel_size, operation, workspace))
 }
 
-// Erosion: the minimum over each reach.
+// Erodes: takes the minimum over each reach.
 pub fn grayscale_erode_into(
     src: &[u8],
     src_geometry: Geometry,
@@ -180,7 +204,7 @@ pub fn grayscale_erode_into(
     )
 }
 
-// Dilation: the maximum over each reach.
+// Dilates: takes the maximum over each reach.
 pub fn grayscale_dilate_into(
     src: &[u8],
     src_geometry: Geometry,
@@ -215,7 +239,7 @@ pub fn grayscale_dilate_into(
     )
 }
 
-// Opening: erosion, then dilation.
+// Opens: erodes, then dilates.
 pub fn grayscale_open_into(
     src: &[u8],
     src_geometry: Geometry,
@@ -250,7 +274,7 @@ pub fn grayscale_open_into(
     )
 }
 
-// Closing: dilation, then erosion.
+// Closes: dilates, then erodes.
 pub fn grayscale_close_into(
     src: &[u8],
     src_geometry: Geometry,

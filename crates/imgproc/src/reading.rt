@@ -1,4 +1,5 @@
-// The reading: a picture flattened and opened, its low-contrast tiles skipped, and every other pixel judged by its threshold.
+// Reads a picture: flattens and opens it, skips its tiles of low contrast, and judges every other pixel by its
+// threshold.
 pub mod config;
 pub mod judging;
 
@@ -21,6 +22,9 @@ ghost use Rattle.imgproc.specs.Reading.{Reads, readAnswer, readingSettin
 ghost use Rattle.imgproc.specs.Refusals.{first};
 ghost use Rattle.imgproc.specs.ReadingSteps.{ReadReady, ReadDone, OpenReady, Opened, MarkReady, Marks};
 
+// A reading's byte workspace begins with this many planes of width × height bytes; the tiles' skips follow them.
+const PLANES: usize = 9;
+
 pub struct ReadingCounts {
     pub dark: u64,
     pub light: u64,
@@ -28,13 +32,13 @@ pub struct ReadingCounts {
     pub tally: Tally,
 }
 
-// The four counts of a reading, or its refusal.
+// What a reading answers: its four counts, or its refusal.
 pub enum Read {
     Counts(ReadingCounts),
     Refused(ImgProcError),
 }
 
-// The picture flattened in the second plane of the workspace, and opened into the first.
+// Flattens the picture in the second plane of the workspace, and opens it into the first.
 fn flatten_and_open(
     tally: Tally,
     src: &[u8],
@@ -55,20 +59,33 @@ fn flatten_and_open(
     open_rect_into(raised, bytes, plane, 0, spare, kernel, width, height)
 }
 
-// The skips of the opened picture's tiles, after nine planes of the workspace.
-fn mark_tiles(packed: Geometry, config: ReadingConfig, bytes: &mut [u8], words: &mut [u64])
-    requires { ⌜ MarkReady packed config (now bytes) (now words) ⌝ }
-    ensures { λ _. ⌜ Marks packed config (now (bytes .entry)) (now (words .entry)) (now (bytes .exit)) (now (words .exit)) ⌝ }
+// Marks the opened picture's tiles: writes their skips from `marks` on.
+fn mark_tiles(
+    packed: Geometry,
+    config: ReadingConfig,
+    bytes: &mut [u8],
+    marks: usize,
+    words: &mut [u64],
+)
+    requires { ⌜ MarkReady packed config marks (now bytes) (now words) ⌝ }
+    ensures { λ _.
+        ⌜
+        Marks packed config marks
+        (now (bytes .entry))
+        (now (words .entry))
+        (now (bytes .exit))
+        (now (words .exit))
+        ⌝ }
 {
     let width = packed.width;
     let height = packed.height;
     let plane = width * height;
     let grid = config.grid;
     gather(&bytes[..plane], packed, grid, words, 0);
-    write_skips(words, 0, width, height, grid, bytes, 9 * plane);
+    write_skips(words, 0, width, height, grid, bytes, marks);
 }
 
-// The work of an accepted reading: one tally, started at 0, through the closing and the opening.
+// Does the work of an accepted reading: one tally, started at 0, goes through the closing and the opening.
 fn read_picture(
     src: &[u8],
     src_geometry: Geometry,
@@ -78,17 +95,43 @@ fn read_picture(
     bytes: &mut [u8],
     words: &mut [u64],
 ) -> ReadingCounts
-    requires { ⌜ ReadReady (now src) «src_geometry» (now dst) «dst_geometry» config (now bytes) (now words) ⌝ }
-    ensures { λ r. ⌜ ReadDone (now (src .entry)) «src_geometry» (now (dst .entry)) «dst_geometry» config (now (bytes .entry)) (now (words .entry)) r (now (dst .exit)) (now (bytes .exit)) (now (words .exit)) ⌝ }
+    requires { ⌜
+        ReadReady
+        (record {
+          src = now src;
+          source = «src_geometry»;
+          dst = now dst;
+          target = «dst_geometry»;
+          settings = config;
+          bytes = now bytes;
+          words = now words;
+        })
+        ⌝ }
+    ensures { λ r.
+        ⌜
+        ReadDone
+        (record {
+          src = now (src .entry);
+          source = «src_geometry»;
+          dst = now (dst .entry);
+          target = «dst_geometry»;
+          settings = config;
+          bytes = now (bytes .entry);
+          words = now (words .entry);
+        })
+        r
+        (record { dst = now (dst .exit); bytes = now (bytes .exit); words = now (words .exit) })
+        ⌝ }
 {
     let packed = Geometry {
         width: src_geometry.width,
         height: src_geometry.height,
         stride: src_geometry.width,
     };
+    let marks = PLANES * (src_geometry.width * src_geometry.height);
     let tally = flatten_and_open(start(), src, src_geometry, config, bytes);
-    mark_tiles(packed, config, bytes, words);
-    let judged = judge_picture(packed, config, bytes, words, dst, dst_geometry);
+    mark_tiles(packed, config, bytes, marks, words);
+    let judged = judge_picture(packed, config, bytes, marks, words, dst, dst_geometry);
     ReadingCounts {
         dark: judged.dark,
         light: judged.light,
@@ -97,7 +140,7 @@ fn read_picture(
     }
 }
 
-// Whether the settings are in range: the division's, the opening's kernel, the grid's, the threshold's.
+// Checks the settings: the division's, the opening's kernel, the grid's, the threshold's.
 pub(crate) fn check_settings(config: ReadingConfig) -> Check
     ensures { λ r. ⌜ r ≡ first (readingSettings config) ⌝ }
 {
@@ -118,7 +161,7 @@ pub(crate) fn check_settings(config: ReadingConfig) -> Check
     crate::threshold::check_settings(config.sauvola)
 }
 
-// Whether both workspaces hold a reading of the picture.
+// Checks that both workspaces have room for a reading of the picture.
 pub(crate) fn check_room(
     geometry: Geometry,
     config: ReadingConfig,
@@ -132,7 +175,7 @@ pub(crate) fn check_room(
     let width = geometry.width;
     let height = geometry.height;
     let count = tiles_along(width, grid.tile_width) * tiles_along(height, grid.tile_height);
-    if bytes < 9 * (width * height) + 2 * count {
+    if bytes < PLANES * (width * height) + 2 * count {
         return Check::Refused(ImgProcError::WorkspaceTooSmall);
     }
     if words < 2 * ((width + 1) * (height + 1)) + 5 * count {

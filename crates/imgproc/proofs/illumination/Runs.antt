@@ -8,7 +8,7 @@ use lib.ListN.{length, getD}
 use borrow.Author.Tests.{eq-eqb, ne-eqb, lt-ltb, le-ltb}
 use Rattle.image.specs.declared.Geometry.{Geometry}
 use Rattle.image.specs.Answers.{Answer, Bare}
-use Rattle.image.specs.Plane.{picture, painted, part}
+use Rattle.image.specs.Plane.{picture, part}
 use Rattle.image.specs.PlaneLaws.{in-plane, is-plane, length-part, getD-part}
 use Rattle.image.specs.Copy.{Packs, Unpacks}
 use Rattle.imgproc.specs.declared.illumination.BackgroundDivideConfig.{BackgroundDivideConfig}
@@ -19,9 +19,11 @@ use Rattle.imgproc.specs.Tallies.{Stands, room-fresh, raised-fresh}
 use Rattle.imgproc.specs.Morphology.{closed}
 use Rattle.imgproc.specs.Sweeps.{TwiceReady, TwiceMorphed}
 use Rattle.imgproc.specs.Refusals.{first, divisionSettings}
-use Rattle.imgproc.specs.Division.{quotient, dividedBy, divided, PlaneDivided, FlattenReady, Flattened, DivideReady, Divided}
+use Rattle.imgproc.specs.Calls.{Loan, Works}
+use Rattle.imgproc.specs.Division.{quotient, dividedBy, divided, division, PlaneDivided, FlattenReady, Flattened, DivideReady}
 use Rattle.image.specs.LayoutLaws.{area-small}
-use Rattle.image.specs.CopyLaws.{packs-plane, unpacks-done}
+use Rattle.image.specs.CopyLaws.{packs-plane}
+use Rattle.imgproc.proofs.Serving.{unpacked-works}
 use Rattle.imgproc.proofs.morphology.Runs.{twice-ready}
 
 -- ---- packed, closed, divided
@@ -78,25 +80,24 @@ module _ (tally : Tally) (src : List ℕ) (g : Geometry) (d : BackgroundDivideCo
         }
 
 -- ---- and painted
-module _ (src : List ℕ) (s : Geometry) (dst : List ℕ) (t : Geometry) (d : BackgroundDivideConfig) (ws : List ℕ)
-    (ready : DivideReady src s dst t d ws) (tally : Tally) (fresh : Stands tally 0) where
-  pub flatten-ready : FlattenReady tally src s d ws
+module _ {lent : Loan BackgroundDivideConfig} (ready : DivideReady lent) {tally : Tally} (fresh : Stands tally 0) where
+  pub flatten-ready : FlattenReady tally (lent .src) (lent .source) (lent .settings) (lent .workspace)
   flatten-ready =
-      let area = area-small (ready .from) in
-      record { from = ready .from; kernel = ready .kernel; floor = ready .floor; fits = ready .fits; room = room-fresh fresh (omega arith) }
+      let area = area-small (ready .pair .from) in
+      record {
+        from = ready .pair .from;
+        kernel = ready .kernel;
+        floor = ready .floor;
+        fits = ready .fits;
+        room = room-fresh fresh (omega arith);
+      }
 
-  module _ (raised : Tally) (ws′ : List ℕ) (flat : Flattened tally src s d ws raised ws′) where
-    pub picture-divided : {r : Answer Bare} {dst′ : List ℕ} → Unpacks ws′ (s .width * s .height) dst t r dst′ → Divided src s dst t d ws raised dst′ ws′
-    picture-divided {r} {dst′} unpack =
-        let area : t .width * t .height ≡ s .width * s .height = ap₂ (λ (a b : ℕ). a * b) (sym (ready .wide)) (sym (ready .high)) in
-        let left = unpacks-done (ready .to) (omega (arith, flat .long, ready .fits)) unpack in
-        let p : dst′ ≡ painted (part (s .width * s .height) (s .width * s .height) ws′) (s .width) (s .height) (t .stride) dst =
-        left ∙ rw (ready .wide, ready .high) in
-        record {
-          leaves = p ∙ ap (λ (q : List ℕ). painted q (s .width) (s .height) (t .stride) dst) (flat .leaves);
-          counted = raised-fresh fresh (flat .counted);
-          long = flat .long;
-        }
+  pub divide-works : {raised : Tally} {ws dst : List ℕ} {r : Answer Bare}
+      → Flattened tally (lent .src) (lent .source) (lent .settings) (lent .workspace) raised ws
+      → Unpacks ws (lent .source .width * lent .source .height) (lent .dst) (lent .target) r dst
+      → Works division lent raised (record { dst = dst; workspace = ws })
+  divide-works flat unpack =
+      unpacked-works (ready .pair) (ready .fits) (flat .leaves) (raised-fresh fresh (flat .counted)) (flat .long) unpack
 
 -- ---- the settings
 module _ (d : BackgroundDivideConfig) where

@@ -1,21 +1,22 @@
 -- The work of an accepted morphology call: its planes lie in the workspace, and what is packed, operated on and painted is the contract's picture. Assumes nothing.
-use mathlib.Core.Path.{_≡_, sym, ap, ap₂, _∙_}
+use mathlib.Core.Path.{_≡_, ap, _∙_}
 use mathlib.Core.List.{List}
 use mathlib.Core.Logic.{inl, inr}
 use Prim.Native.Nat.{ℕ, _*_}
 use native.Mathlib.Omega.{arith}
 use lib.ListN.{length}
-use Rattle.image.specs.declared.Geometry.{Geometry}
 use Rattle.image.specs.Answers.{Answer, Bare}
-use Rattle.image.specs.Plane.{picture, painted, part}
+use Rattle.image.specs.Plane.{picture, part}
 use Rattle.image.specs.Copy.{Packs, Unpacks}
 use Rattle.imgproc.specs.declared.morphology.tally.Tally.{Tally}
 use Rattle.imgproc.specs.Tallies.{room-part}
 use Rattle.imgproc.specs.declared.morphology.Operation.{Operation}
 use Rattle.imgproc.specs.Sweeps.{MorphReady, TwiceReady}
-use Rattle.imgproc.specs.MorphologyCalls.{operated, OperateReady, CountReady, Counts, RunReady, Runs}
+use Rattle.imgproc.specs.MorphologyCalls.{operated, morphology, OperateReady, CountReady, Counts, RunReady}
+use Rattle.imgproc.specs.Calls.{Loan, Works}
 use Rattle.image.specs.LayoutLaws.{area-small}
-use Rattle.image.specs.CopyLaws.{packs-plane, unpacks-done}
+use Rattle.image.specs.CopyLaws.{packs-plane}
+use Rattle.imgproc.proofs.Serving.{unpacked-works}
 
 -- ---- the planes of an operation: the first, the second, and the scratch after them
 pub once-ready : {t : Tally} {d : List ℕ} {k w h : ℕ} → OperateReady t d k w h → MorphReady t d 0 (w * h) (2 * (w * h)) k k w h
@@ -39,32 +40,32 @@ pub twice-ready : {t : Tally} {d : List ℕ} {k w h : ℕ} → OperateReady t d 
 twice-ready p = record { rows = once-ready p .rows; wide = p .wide; room = p .room }
 
 -- ---- packed, operated on, painted
-module _ (operation : Operation) (src : List ℕ) (s : Geometry) (dst : List ℕ) (t : Geometry) (k : ℕ) (ws : List ℕ) (ready : RunReady src s dst t k ws)
-    (r : Answer Bare) (first : List ℕ) (pack : Packs src s 0 ws r first) where
-  plane : (length first ≡ length ws) × (part 0 (s .width * s .height) first ≡ picture src s)
-  plane = packs-plane (ready .from) (omega (arith, ready .fits)) pack
+module _ {lent : Loan ℕ} (ready : RunReady lent) {r : Answer Bare} {first : List ℕ}
+    (pack : Packs (lent .src) (lent .source) 0 (lent .workspace) r first) where
+  abbrev w : ℕ
+  w = lent .source .width
 
-  pub run-count-ready : CountReady first k (s .width) (s .height)
+  abbrev h : ℕ
+  h = lent .source .height
+
+  plane : (length first ≡ length (lent .workspace)) × (part 0 (w * h) first ≡ picture (lent .src) (lent .source))
+  plane = packs-plane (ready .pair .from) (omega (arith, ready .fits)) pack
+
+  pub run-count-ready : CountReady first (lent .settings) w h
   run-count-ready =
-      let area = area-small (ready .from) in
+      let area = area-small (ready .pair .from) in
       record {
         fits = omega (arith, plane .0, ready .fits);
         kernel = ready .kernel;
-        wide = ready .from .wide;
+        wide = ready .pair .from .wide;
         room = omega arith;
       }
 
-  module _ (raised : Tally) (second : List ℕ) (counts : Counts operation first k (s .width) (s .height) raised second) (r′ : Answer Bare) (dst′ : List ℕ)
-      (unpack : Unpacks second (s .width * s .height) dst t r′ dst′) where
-    pub run-runs : Runs operation src s dst t k ws raised dst′ second
-    run-runs =
-        let long = plane .0 in
-        let area : t .width * t .height ≡ s .width * s .height = ap₂ (λ (a b : ℕ). a * b) (sym (ready .wide)) (sym (ready .high)) in
-        let left = unpacks-done (ready .to) (omega (arith, counts .long, ready .fits)) unpack in
-        let p : dst′ ≡ painted (part (s .width * s .height) (s .width * s .height) second) (s .width) (s .height) (t .stride) dst =
-        left ∙ rw (ready .wide, ready .high) in
-        record {
-          leaves = p ∙ ap (λ (q : List ℕ). painted q (s .width) (s .height) (t .stride) dst) (counts .leaves ∙ ap (operated operation k (s .width) (s .height)) (plane .1));
-          counted = counts .counted;
-          long = counts .long ∙ long;
-        }
+  pub run-works : {operation : Operation} {raised : Tally} {second dst : List ℕ} {r′ : Answer Bare}
+      → Counts operation first (lent .settings) w h raised second
+      → Unpacks second (w * h) (lent .dst) (lent .target) r′ dst
+      → Works (morphology operation) lent raised (record { dst = dst; workspace = second })
+  run-works {operation} counts unpack =
+      unpacked-works (ready .pair) (ready .fits)
+      (counts .leaves ∙ ap (operated operation (lent .settings) w h) (plane .1))
+      (counts .counted) (counts .long ∙ plane .0) unpack

@@ -9,17 +9,30 @@ use lib.ListN.{length}
 use Rattle.image.specs.declared.Geometry.{Geometry}
 use Rattle.image.specs.Layout.{Kept}
 use Rattle.image.specs.LayoutLaws.{area-small}
-use Rattle.image.specs.Plane.{picture, painted, part}
+use Rattle.image.specs.Plane.{picture, paintedOn, part}
 use Rattle.imgproc.specs.declared.reading.config.ReadingConfig.{ReadingConfig}
 use Rattle.imgproc.specs.declared.reading.ReadingCounts.{ReadingCounts}
 use Rattle.imgproc.specs.declared.reading.judging.Judged.{Judged}
 use Rattle.imgproc.specs.declared.reading.judging.Judgement.{Judgement}
 use Rattle.imgproc.specs.declared.morphology.tally.Tally.{Tally}
 use Rattle.imgproc.specs.Tallies.{Stands, stands-as, room-fresh, raised-fresh}
-use Rattle.imgproc.specs.Reach.{R}
 use Rattle.imgproc.specs.Walks.{sweep-walks}
 use Rattle.imgproc.specs.Grid.{skips}
-use Rattle.imgproc.specs.Reading.{ReadingNumbers, isDark, isLight, isSkipped, openedOf, judgedOver, judged, pixels, readingOf, marked}
+use Rattle.imgproc.specs.Reading.{
+  ReadingNumbers,
+  ReadingLent,
+  isDark,
+  isLight,
+  isSkipped,
+  openedOf,
+  judgedOver,
+  judged,
+  pixels,
+  comparisonsOf,
+  readingOf,
+  marked,
+  marksAt,
+}
 use Rattle.imgproc.specs.ReadingSteps.{markedOver, OpenReady, Opened, MarkReady, Marks, JudgeRoom, PictureJudged, ReadReady, ReadDone}
 
 -- the packed geometry of a picture
@@ -40,56 +53,68 @@ counts-of a b c t = record { dark = a; light = b; skipped = c; tally = t }
 abbrev numbers : ℕ → ℕ → ℕ → ℕ → ReadingNumbers
 numbers a b c d = record { dark = a; light = b; skipped = c; comparisons = d }
 
-module _ (src : List ℕ) (g : Geometry) (dst : List ℕ) (t : Geometry) (s : ReadingConfig) (bytes words : List ℕ)
-    (ready : ReadReady src g dst t s bytes words) (tally : Tally) (fresh : Stands tally 0) where
-  pub open-stage : OpenReady tally src g s bytes
+module _ {lent : ReadingLent} (ready : ReadReady lent) {tally : Tally} (fresh : Stands tally 0) where
+  abbrev g : Geometry
+  g = lent .source
+
+  abbrev s : ReadingConfig
+  s = lent .settings
+
+  pub open-stage : OpenReady tally (lent .src) g s (lent .bytes)
   open-stage =
-      let a = area-small (ready .from) in
+      let a = area-small (ready .pair .from) in
       record {
-        from = ready .from;
-        element = ready .element;
-        floor = ready .floor;
-        kernel = ready .kernel;
+        from = ready .pair .from;
+        element = ready .settings .element;
+        floor = ready .settings .floor;
+        kernel = ready .settings .kernel;
         fits = omega (arith, ready .bytes-fit);
         room = room-fresh fresh (omega arith);
       }
 
-  module _ (raised : Tally) (bytes₁ : List ℕ) (o : Opened tally src g s bytes raised bytes₁) where
-    pub mark-stage : MarkReady (packedAs g) s bytes₁ words
+  abbrev marksPlace : ℕ
+  marksPlace = marksAt (g .width) (g .height)
+
+  module _ {raised : Tally} {bytes₁ : List ℕ} (o : Opened tally (lent .src) g s (lent .bytes) raised bytes₁) where
+    pub mark-stage : MarkReady (packedAs g) s marksPlace bytes₁ (lent .words)
     mark-stage = record {
-      layout = packed-kept (ready .from);
+      layout = packed-kept (ready .pair .from);
       tight = refl;
-      tile-width = ready .tile-width;
-      tile-height = ready .tile-height;
+      tile-width = ready .settings .tile-width;
+      tile-height = ready .settings .tile-height;
+      behind = omega arith;
       bytes-fit = omega (arith, o .long, ready .bytes-fit);
       words-fit = omega (arith, ready .words-fit);
     }
 
-    module _ (bytes₂ words₂ : List ℕ) (m : Marks (packedAs g) s bytes₁ words bytes₂ words₂) where
-      pub judge-stage : JudgeRoom (packedAs g) s bytes₂ words₂
+    module _ {bytes₂ words₂ : List ℕ} (m : Marks (packedAs g) s marksPlace bytes₁ (lent .words) bytes₂ words₂) where
+      pub judge-stage : JudgeRoom (packedAs g) s marksPlace bytes₂ words₂
       judge-stage = record {
         marks = record {
-          layout = packed-kept (ready .from);
+          layout = packed-kept (ready .pair .from);
           tight = refl;
-          tile-width = ready .tile-width;
-          tile-height = ready .tile-height;
+          tile-width = ready .settings .tile-width;
+          tile-height = ready .settings .tile-height;
+          behind = omega arith;
           bytes-fit = omega (arith, m .bytes-long, o .long, ready .bytes-fit);
           words-fit = omega (arith, m .words-long, ready .words-fit);
         };
         skips = m .skips ∙ ap (skips (s .grid) (g .width) (g .height)) (sym (m .opened));
         tables-fit = omega (arith, m .words-long, ready .words-fit);
-        settings = ready .settings;
+        settings = ready .settings .sauvola;
       }
 
       -- what was judged is the opened picture
       source : List ℕ
-      source = picture src g
+      source = picture (lent .src) g
 
       is-opened : part 0 (g .width * g .height) bytes₂ ≡ openedOf s (g .width) (g .height) source
       unfolding source
       is-opened = m .opened ∙ o .leaves
 
-      count-is : (test : Judgement → Bool) → pixels (g .width) (g .height) (λ x y. test (judgedOver s (g .width) (g .height) (part 0 (g .width * g .height) bytes₂) x y)) ≡ pixels (g .width) (g .height) (λ x y. test (judged s (g .width) (g .height) source x y))
+      count-is : (test : Judgement → Bool)
+          → pixels (g .width) (g .height) (λ x y. test (judgedOver s (g .width) (g .height) (part 0 (g .width * g .height) bytes₂) x y))
+          ≡ pixels (g .width) (g .height) (λ x y. test (judged s (g .width) (g .height) source x y))
       unfolding judged
       count-is test = ap (λ (p : List ℕ). pixels (g .width) (g .height) (λ x y. test (judgedOver s (g .width) (g .height) p x y))) is-opened
 
@@ -97,23 +122,22 @@ module _ (src : List ℕ) (g : Geometry) (dst : List ℕ) (t : Geometry) (s : Re
       unfolding marked markedOver judged
       marked-is = ap (markedOver s (g .width) (g .height)) is-opened
 
-      comparisons-are : Stands raised (2 * R (s .division .«structuring_element») (g .width) (g .height) + 2 * R (s .«opening_kernel») (g .width) (g .height))
+      comparisons-are : Stands raised (comparisonsOf s (g .width) (g .height))
       comparisons-are =
-          let closing = sweep-walks (s .division .«structuring_element») (ready .element) (g .width) (g .height) in
-          let opening = sweep-walks (s .«opening_kernel») (ready .kernel) (g .width) (g .height) in
+          let closing = sweep-walks (s .division .«structuring_element») (ready .settings .element) (g .width) (g .height) in
+          let opening = sweep-walks (s .«opening_kernel») (ready .settings .kernel) (g .width) (g .height) in
           stands-as (raised-fresh fresh (o .counted)) (omega arith)
 
-      pub read-done :
-          {j : Judged} {dst′ words₃ : List ℕ}
-          → PictureJudged s (packedAs g) (part 0 (g .width * g .height) bytes₂) dst (t .stride) j dst′
+      pub read-done : {j : Judged} {dst words₃ : List ℕ}
+          → PictureJudged s (packedAs g) (part 0 (g .width * g .height) bytes₂) (lent .dst) (lent .target) j dst
           → length words₃ ≡ length words₂
-          → ReadDone src g dst t s bytes words (counts-of (j .dark) (j .light) (j .skipped) raised) dst′ bytes₂ words₃
+          → ReadDone lent (counts-of (j .dark) (j .light) (j .skipped) raised) (record { dst = dst; bytes = bytes₂; words = words₃ })
       unfolding source readingOf
       read-done {j} p l = record {
         counted =
             ap₂ (λ (a b : ℕ). numbers a b (j .skipped) (raised .comparisons)) (p .dark ∙ count-is isDark) (p .light ∙ count-is isLight)
             ∙ ap₂ (numbers _ _) (p .skipped ∙ count-is isSkipped) (comparisons-are .at);
-        leaves = p .leaves ∙ ap (λ (z : List ℕ). painted z (g .width) (g .height) (t .stride) dst) marked-is;
+        leaves = p .leaves ∙ ap (paintedOn (lent .dst) (lent .target)) marked-is;
         bytes-long = m .bytes-long ∙ o .long;
         words-long = l ∙ m .words-long;
       }

@@ -29,12 +29,21 @@ use Rattle.imgproc.specs.Tables.{Tables}
 use Rattle.imgproc.proofs.grid.bytes.Tables.{skips-are}
 
 -- ---- flattened and opened
-module _ (tally : Tally) (src : List ℕ) (g : Geometry) (s : ReadingConfig) (ws : List ℕ) (ready : OpenReady tally src g s ws) where
+module _ {tally : Tally} {src : List ℕ} {g : Geometry} {s : ReadingConfig} {ws : List ℕ} (ready : OpenReady tally src g s ws) where
   pub flat-ready : FlattenReady tally src g (s .division) ws
-  flat-ready = record { from = ready .from; kernel = ready .element; floor = ready .floor; fits = ready .fits; room = room-part (ready .room) (omega arith) }
+  flat-ready = record {
+    from = ready .from;
+    kernel = ready .element;
+    floor = ready .floor;
+    fits = ready .fits;
+    room = room-part (ready .room) (omega arith);
+  }
 
-  module _ (raised : Tally) (first : List ℕ) (flat : Flattened tally src g (s .division) ws raised first) where
-    pub open-ready : TwiceReady raised first (g .width * g .height) 0 (2 * (g .width * g .height)) (s .«opening_kernel») (g .width) (g .height)
+  module _ {raised : Tally} {first : List ℕ} (flat : Flattened tally src g (s .division) ws raised first) where
+    abbrev plane : ℕ
+    plane = g .width * g .height
+
+    pub open-ready : TwiceReady raised first plane 0 (2 * plane) (s .«opening_kernel») (g .width) (g .height)
     open-ready =
         let across = lines-walks-le (s .division .«structuring_element») (g .width) (g .height) in
         let down = lines-walks-le (s .division .«structuring_element») (g .height) (g .width) in
@@ -53,7 +62,9 @@ module _ (tally : Tally) (src : List ℕ) (g : Geometry) (s : ReadingConfig) (ws
           room = room-left (ready .room) (flat .counted) (omega arith);
         }
 
-    pub opened-is : {r : Tally} {second : List ℕ} → TwiceMorphed opened raised first (g .width * g .height) 0 (2 * (g .width * g .height)) (s .«opening_kernel») (g .width) (g .height) r second → Opened tally src g s ws r second
+    pub opened-is : {r : Tally} {second : List ℕ}
+        → TwiceMorphed opened raised first plane 0 (2 * plane) (s .«opening_kernel») (g .width) (g .height) r second
+        → Opened tally src g s ws r second
     opened-is o = record {
       leaves = o .leaves ∙ ap (opened (s .«opening_kernel») (g .width) (g .height)) (flat .leaves);
       counted = raised-twice (flat .counted) (o .counted) refl;
@@ -61,9 +72,9 @@ module _ (tally : Tally) (src : List ℕ) (g : Geometry) (s : ReadingConfig) (ws
     }
 
 -- ---- the tiles' marks
-module _ (g : Geometry) (s : ReadingConfig) (bytes words : List ℕ) (ready : MarkReady g s bytes words) where
+module _ {g : Geometry} {s : ReadingConfig} {at : ℕ} {bytes words : List ℕ} (ready : MarkReady g s at bytes words) where
   pub prefix-long : length (take (g .width * g .height) bytes) ≡ g .width * g .height
-  prefix-long = length-take-le (g .width * g .height) bytes (omega (arith, ready .bytes-fit))
+  prefix-long = length-take-le (g .width * g .height) bytes (omega (arith, ready .behind, ready .bytes-fit))
 
   pub prefix-kept : Kept (length (take (g .width * g .height) bytes)) g
   prefix-kept = subst (λ (m : ℕ). Kept m g) (sym prefix-long) (ready .layout)
@@ -84,7 +95,11 @@ module _ (g : Geometry) (s : ReadingConfig) (bytes words : List ℕ) (ready : Ma
 
     new-long : length new ≡ tilesX (s .grid) (g .width) * tilesY (s .grid) (g .height)
     unfolding new skips
-    new-long = length-tabulate (λ i. bit (skipOf (s .grid) (g .width) (g .height) (part 0 (g .width * g .height) bytes) (i % tilesX (s .grid) (g .width)) (i / tilesX (s .grid) (g .width)))) (tilesX (s .grid) (g .width) * tilesY (s .grid) (g .height))
+    new-long =
+        let across = tilesX (s .grid) (g .width) in
+        length-tabulate
+        (λ i. bit (skipOf (s .grid) (g .width) (g .height) (part 0 (g .width * g .height) bytes) (i % across) (i / across)))
+        (across * tilesY (s .grid) (g .height))
 
     is-new : eachTile (byteBy Skip (s .grid)) (s .grid) (g .width) (g .height) 0 words′ ≡ new
     unfolding new
@@ -93,34 +108,33 @@ module _ (g : Geometry) (s : ReadingConfig) (bytes words : List ℕ) (ready : Ma
         ∙ ap (skips (s .grid) (g .width) (g .height))
         (picture-again (take (g .width * g .height) bytes) g (ready .layout .wide) (ready .tight) prefix-long)
 
-    pub marked : {bytes′ : List ℕ} → bytes′ ≡ overwritten (9 * (g .width * g .height)) (eachTile (byteBy Skip (s .grid)) (s .grid) (g .width) (g .height) 0 words′) bytes → Marks g s bytes words bytes′ words′
+    pub marked : {bytes′ : List ℕ}
+        → bytes′ ≡ overwritten at (eachTile (byteBy Skip (s .grid)) (s .grid) (g .width) (g .height) 0 words′) bytes
+        → Marks g s at bytes words bytes′ words′
     unfolding new
     marked {bytes′} is =
         let m = g .width * g .height in
-        let e : bytes′ ≡ overwritten (9 * m) new bytes = is ∙ ap (λ (p : List ℕ). overwritten (9 * m) p bytes) is-new in
-        let fits : 9 * m + length new ≤ length bytes = omega (arith, new-long, ready .bytes-fit) in
-        let long = length-overwritten (9 * m) new bytes fits in
+        let e : bytes′ ≡ overwritten at new bytes = is ∙ ap (λ (p : List ℕ). overwritten at p bytes) is-new in
+        let fits : at + length new ≤ length bytes = omega (arith, new-long, ready .bytes-fit) in
+        let long = length-overwritten at new bytes fits in
         record {
-          opened =
-              ap (part 0 m) e ∙ part-before (9 * m) new bytes fits 0 m (omega arith);
-          skips = ap₂ (λ (c : ℕ) (d : List ℕ). part (9 * m) c d) (sym new-long) e ∙ part-overwritten (9 * m) new bytes fits;
+          opened = ap (part 0 m) e ∙ part-before at new bytes fits 0 m (omega (arith, ready .behind));
+          skips = ap₂ (λ (c : ℕ) (d : List ℕ). part at c d) (sym new-long) e ∙ part-overwritten at new bytes fits;
           bytes-long = ap length e ∙ long;
           words-long = gathered .long;
         }
 
 -- ---- the judgements
-module _ (g : Geometry) (s : ReadingConfig) (bytes words : List ℕ) (room : JudgeRoom g s bytes words) where
-  pub judge-ready :
-      {words′ : List ℕ} (c : ℕ)
+module _ {g : Geometry} {s : ReadingConfig} {at : ℕ} {bytes words : List ℕ} (room : JudgeRoom g s at bytes words) where
+  pub judge-ready : {words′ : List ℕ} (c : ℕ)
       → c ≡ tilesX (s .grid) (g .width) * tilesY (s .grid) (g .height)
       → Tables (take (g .width * g .height) bytes) g 0 words′
-      → JudgeReady (take (g .width * g .height) bytes) g (take (9 * (g .width * g .height) + c - 9 * (g .width * g .height)) (drop (9 * (g .width * g .height)) bytes)) words′ 0 s
+      → JudgeReady (take (g .width * g .height) bytes) g (take (at + c - at) (drop at bytes)) words′ 0 s
   judge-ready c e tables = record {
-    tables = record { layout = prefix-kept g s bytes words (room .marks); tables = tables; settings = room .settings };
+    tables = record { layout = prefix-kept (room .marks); tables = tables; settings = room .settings };
     tight = room .marks .tight;
-    whole = prefix-long g s bytes words (room .marks);
+    whole = prefix-long (room .marks);
     tile-width = room .marks .tile-width;
     tile-height = room .marks .tile-height;
-    marks =
-        ap (λ (m : ℕ). part (9 * (g .width * g .height)) m bytes) (add-sub-cancel-left (9 * (g .width * g .height)) c ∙ e) ∙ room .skips;
+    marks = ap (λ (m : ℕ). part at m bytes) (add-sub-cancel-left at c ∙ e) ∙ room .skips;
   }

@@ -1,4 +1,4 @@
-// The settings of a reading: those of the division, of the opening, of the grid and of the threshold.
+// Holds the settings of a reading: those of the division, of the opening, of the grid and of the threshold.
 use crate::grid::config::TileThresholdConfig;
 use crate::illumination::BackgroundDivideConfig;
 use crate::threshold::SauvolaConfig;

@@ -12,14 +12,14 @@ ghost use Rattle.image.specs.Plane.{part};
 ghost use Rattle.imgproc.specs.Reading.{judgedOver};
 ghost use Rattle.imgproc.specs.ReadingSteps.{JudgeReady, JudgeRoom, Room, RowJudged, PictureJudged};
 
-// What a pixel is judged.
+// What a pixel is judged: its tile may be skipped; else its value is at or below its threshold, or above it.
 pub enum Judgement {
     Dark,
     Light,
     Skipped,
 }
 
-// The judgement of pixel (x, y) of the opened picture, whose tables stand in the u64 workspace.
+// Judges pixel (x, y) of the opened picture, whose tables stand in the u64 workspace.
 fn judge(
     opened: &[u8],
     packed: Geometry,
@@ -30,7 +30,8 @@ fn judge(
     x: usize,
     y: usize,
 ) -> Judgement
-    requires { ⌜ JudgeReady (now opened) packed (now skips) (now workspace) at config × ((x < packed .width) × (y < packed .height)) ⌝ }
+    requires { ⌜ JudgeReady (now opened) packed (now skips) (now workspace) at config ⌝ }
+    requires { ⌜ (x < packed .width) × (y < packed .height) ⌝ }
     ensures { λ r. ⌜ r ≡ judgedOver config (packed .width) (packed .height) (now (opened .entry)) x y ⌝ }
 {
     let grid = config.grid;
@@ -48,14 +49,14 @@ fn judge(
     }
 }
 
-// How many pixels were judged what.
+// Counts the pixels that were judged dark, light and skipped.
 pub(crate) struct Judged {
     pub dark: u64,
     pub light: u64,
     pub skipped: u64,
 }
 
-// Row y of the destination, judged pixel by pixel and counted.
+// Judges row y pixel by pixel, counts, and writes the row of the destination.
 fn judge_row(
     judged: Judged,
     opened: &[u8],
@@ -67,7 +68,8 @@ fn judge_row(
     y: usize,
     out: &mut [u8],
 ) -> Judged
-    requires { ⌜ JudgeReady (now opened) packed (now skips) (now workspace) at config × ((y < packed .height) × ((length (now out) ≡ packed .width) × Room judged (packed .width))) ⌝ }
+    requires { ⌜ JudgeReady (now opened) packed (now skips) (now workspace) at config ⌝ }
+    requires { ⌜ (y < packed .height) × ((length (now out) ≡ packed .width) × Room judged (packed .width)) ⌝ }
     ensures { λ r. ⌜ RowJudged judged config packed (now (opened .entry)) y r (now (out .exit)) ⌝ }
 {
     let sauvola = config.sauvola;
@@ -95,7 +97,7 @@ fn judge_row(
     counts
 }
 
-// Every pixel of the opened picture judged and counted, row by row into the destination.
+// Judges and counts every pixel of the opened picture, row by row into the destination.
 fn judge_rows(
     opened: &[u8],
     packed: Geometry,
@@ -107,8 +109,19 @@ fn judge_rows(
     dst_geometry: Geometry,
 ) -> Judged
     requires { ⌜ JudgeReady (now opened) packed (now skips) (now workspace) at config ⌝ }
-    requires { ⌜ Kept (length (now dst)) «dst_geometry» × ((«dst_geometry» .width ≡ packed .width) × («dst_geometry» .height ≡ packed .height)) ⌝ }
-    ensures { λ r. ⌜ PictureJudged config packed (now (opened .entry)) (now (dst .entry)) («dst_geometry» .stride) r (now (dst .exit)) ⌝ }
+    requires {
+        ⌜
+        Kept (length (now dst)) «dst_geometry»
+        × ((«dst_geometry» .width ≡ packed .width) × («dst_geometry» .height ≡ packed .height))
+        ⌝ }
+    ensures { λ r.
+        ⌜
+        PictureJudged config packed (now (opened .entry))
+        (now (dst .entry))
+        «dst_geometry»
+        r
+        (now (dst .exit))
+        ⌝ }
 {
     let mut counts = Judged {
         dark: 0,
@@ -135,24 +148,35 @@ fn judge_rows(
     counts
 }
 
-// The judgements, once the opened picture and its marks stand in the workspaces.
+// Judges the opened picture, which stands at the start of the byte workspace with its tiles' skips from `marks` on.
 pub(crate) fn judge_picture(
     packed: Geometry,
     config: ReadingConfig,
     bytes: &[u8],
+    marks: usize,
     words: &mut [u64],
     dst: &mut [u8],
     dst_geometry: Geometry,
 ) -> Judged
-    requires { ⌜ JudgeRoom packed config (now bytes) (now words) ⌝ }
-    requires { ⌜ Kept (length (now dst)) «dst_geometry» × ((«dst_geometry» .width ≡ packed .width) × («dst_geometry» .height ≡ packed .height)) ⌝ }
-    ensures { λ r. ⌜ PictureJudged config packed (part 0 (packed .width * packed .height) (now (bytes .entry))) (now (dst .entry)) («dst_geometry» .stride) r (now (dst .exit)) ⌝ }
+    requires { ⌜ JudgeRoom packed config marks (now bytes) (now words) ⌝ }
+    requires {
+        ⌜
+        Kept (length (now dst)) «dst_geometry»
+        × ((«dst_geometry» .width ≡ packed .width) × («dst_geometry» .height ≡ packed .height))
+        ⌝ }
+    ensures { λ r.
+        ⌜
+        PictureJudged config packed (part 0 (packed .width * packed .height) (now (bytes .entry)))
+        (now (dst .entry))
+        «dst_geometry»
+        r
+        (now (dst .exit))
+        ⌝ }
 {
     let plane = packed.width * packed.height;
     let grid = config.grid;
     let count = tiles_along(packed.width, grid.tile_width)
         * tiles_along(packed.height, grid.tile_height);
-    let marks = 9 * plane;
     let end = marks + count;
     build_tables(&bytes[..plane], packed, words, 0);
     judge_rows(

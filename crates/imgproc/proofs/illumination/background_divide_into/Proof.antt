@@ -10,8 +10,8 @@ use Rattle.image.specs.LayoutLaws.{area-small}
 use Rattle.imgproc.specs.Refusals.{refusedIf, divisionSettings}
 use Rattle.imgproc.specs.RefusalLaws.{then-accepted, division-says}
 use Rattle.imgproc.specs.declared.ImgProcError.the-variants.{Image, DimensionMismatch, WorkspaceTooSmall}
-use Rattle.imgproc.proofs.WaysOut.{Pair, pair-of, source-kept, target-kept, ways}
-use Rattle.imgproc.proofs.Serving.{refused-call, served}
+use Rattle.imgproc.proofs.WaysOut.{Pair, pair-of, paired, source-kept, ways}
+use Rattle.imgproc.proofs.Serving.{refused-call, worked}
 use Rattle.imgproc.proofs.morphology.Ways.{room-short, room-enough}
 use Rattle.imgproc.proofs.illumination.background_divide_into.Statement.{statement}
 use Rattle.imgproc.proofs.illumination.background_divide_into.Tie as tie
@@ -94,10 +94,7 @@ divide-picture-requires c κs =
     let p = pair (s .before) in
     let good = division-says (start (s .before) .args .config) (sym (s .check-settings .ensures) ∙ k .enum-told3 .given .1) in
     record {
-      from = source-kept p;
-      to = target-kept p;
-      wide = p .wide;
-      high = p .high;
+      pair = paired p;
       kernel = omega (arith, good .0);
       floor = good .1;
       fits = omega (arith, e .if3 .left);
@@ -115,12 +112,12 @@ returns-7 c =
     let e = ran .before .before .before in
     let k = e .before .before in
     let s = k .before .before in
-    let d = ran .divide-picture .ensures in
     let a = start (s .before) .args in
     let g = first (s .before) .before .layout .given .0 .0 in
     let room = refusedIf (ltb (length (now (a .workspace))) (7 * (g .width * g .height))) WorkspaceTooSmall in
-    served (pair (s .before)) (then-accepted (divisionSettings (a .config)) room (sym (s .check-settings .ensures) ∙ k .enum-told3 .given .1) ∙ room-enough _ _ (e .if3 .left))
-    (d .counted .at) (d .leaves) (d .long)
+    worked (pair (s .before))
+    (then-accepted (divisionSettings (a .config)) room (sym (s .check-settings .ensures) ∙ k .enum-told3 .given .1) ∙ room-enough _ _ (e .if3 .left))
+    (ran .divide-picture .ensures)
 
 pub background-divide-into-spec : {M : Type 1} → statement M
 background-divide-into-spec =

@@ -1,7 +1,6 @@
 -- `divide_picture` flattens with a tally of its own and paints; the copy is never refused. Assumes nothing.
 use borrow.Author.Needs.{needs}
-use denote.Ref.{now}
-use Rattle.imgproc.proofs.illumination.Runs.{flatten-ready, picture-divided}
+use Rattle.imgproc.proofs.illumination.Runs.{flatten-ready, divide-works}
 use Rattle.imgproc.proofs.illumination.divide_picture.Statement.{statement}
 use Rattle.imgproc.proofs.illumination.divide_picture.Tie as tie
 
@@ -15,8 +14,7 @@ flatten-requires : tie.Need-flatten-requires
 flatten-requires c κs =
     let begin = c .before in
     let entry = begin .before .before .before .before .before in
-    let a = entry .args in
-    flatten-ready (now (a .src)) (a .src-geometry) (now (a .dst)) (a .dst-geometry) (a .config) (now (a .workspace)) (entry .pre) (begin .start .result) (begin .start .ensures)
+    flatten-ready (entry .pre) (begin .start .ensures)
 
 unpack-requires : tie.Need-unpack-requires
 unpack-requires c κs = search needs
@@ -33,9 +31,7 @@ returns c =
     let flat = unpack .before .before .before .before .before in
     let begin = flat .before .before in
     let entry = begin .before .before .before .before .before in
-    let a = entry .args in
-    picture-divided (now (a .src)) (a .src-geometry) (now (a .dst)) (a .dst-geometry) (a .config) (now (a .workspace)) (entry .pre) (begin .start .result) (begin .start .ensures)
-    (flat .flatten .result) (flat .flatten .last .1 .1 .1 .1 .0) (flat .flatten .ensures) (unpack .unpack .ensures)
+    divide-works (entry .pre) (begin .start .ensures) (flat .flatten .ensures) (unpack .unpack .ensures)
 
 pub divide-picture-spec : {M : Type 1} → statement M
 divide-picture-spec =

@@ -6,8 +6,8 @@ use lib.ListN.{length}
 use denote.Ref.{now}
 use Rattle.image.specs.LayoutLaws.{area-small}
 use Rattle.imgproc.specs.declared.ImgProcError.the-variants.{Image, DimensionMismatch, InvalidKernel, WorkspaceTooSmall}
-use Rattle.imgproc.proofs.WaysOut.{Pair, pair-of, source-kept, target-kept, ways}
-use Rattle.imgproc.proofs.Serving.{refused-call, served}
+use Rattle.imgproc.proofs.WaysOut.{Pair, pair-of, paired, source-kept, ways}
+use Rattle.imgproc.proofs.Serving.{refused-call, worked}
 use Rattle.imgproc.proofs.morphology.Ways.{kernel-good, room-enough, kernel-ways}
 use Rattle.imgproc.proofs.morphology.apply_into.Statement.{statement}
 use Rattle.imgproc.proofs.morphology.apply_into.Tie as tie
@@ -82,10 +82,7 @@ run-requires c κs =
     let odd = e .before .before in
     let p = pair (odd .before .before) in
     record {
-      from = source-kept p;
-      to = target-kept p;
-      wide = p .wide;
-      high = p .high;
+      pair = paired p;
       kernel = omega (arith, odd .before .if3 .left);
       fits = e .if5 .left;
     }
@@ -101,9 +98,8 @@ returns-8 c =
     let ran = c .before .before .before .before in
     let e = ran .before .before .before in
     let odd = e .before .before in
-    let r = ran .run .ensures in
-    served (pair (odd .before .before)) (kernel-good _ _ (odd .before .if3 .left) (odd .if4 .left) ∙ room-enough _ _ (e .if5 .left))
-    (r .counted .at) (r .leaves) (r .long)
+    worked (pair (odd .before .before)) (kernel-good _ _ (odd .before .if3 .left) (odd .if4 .left) ∙ room-enough _ _ (e .if5 .left))
+    (ran .run .ensures)
 
 pub apply-into-spec : {M : Type 1} → statement M
 apply-into-spec =

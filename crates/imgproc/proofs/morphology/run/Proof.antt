@@ -1,7 +1,6 @@
 -- `run` meets its contract: packed, operated on, painted; neither copy is refused. Assumes nothing.
 use native.Mathlib.Omega.{arith}
-use Rattle.imgproc.proofs.morphology.Runs.{run-count-ready, run-runs}
-use Rattle.image.specs.Copy.{copiedAnswer}
+use Rattle.imgproc.proofs.morphology.Runs.{run-count-ready, run-works}
 use borrow.Author.Needs.{needs}
 use Rattle.imgproc.proofs.morphology.run.Statement.{statement}
 use Rattle.imgproc.proofs.morphology.run.Tie as tie
@@ -13,8 +12,7 @@ count-requires : tie.Need-count-requires
 count-requires c κs =
     let pack = c .before .before .before in
     let start = pack .before .before .before .before .before in
-    let a = start .args in
-    run-count-ready (a .operation) (a .src .now) (a .src-geometry) (a .dst .now) (a .dst-geometry) (a .kernel) (a .workspace .now) (start .pre) (copiedAnswer (pack .pack .result)) (pack .pack .last .1 .1 .0) (pack .pack .ensures)
+    run-count-ready (start .pre) (pack .pack .ensures)
 
 mul-unpack : tie.Need-mul-unpack
 mul-unpack c =
@@ -40,14 +38,7 @@ returns c =
     let count = unpack .before .before .before .before .before in
     let pack = count .before .before .before .before in
     let start = pack .before .before .before .before .before in
-    let a = start .args in
-    run-runs (a .operation) (a .src .now) (a .src-geometry) (a .dst .now) (a .dst-geometry) (a .kernel) (a .workspace .now) (start .pre) (copiedAnswer (pack .pack .result)) (pack .pack .last .1 .1 .0) (pack .pack .ensures)
-    (count .count .result)
-    (count .count .last .0)
-    (count .count .ensures)
-    (copiedAnswer (unpack .unpack .result))
-    (unpack .unpack .last .1 .1 .0)
-    (unpack .unpack .ensures)
+    run-works (start .pre) (pack .pack .ensures) (count .count .ensures) (unpack .unpack .ensures)
 
 pub run-spec : {M : Type 1} → statement M
 run-spec =

@@ -2,7 +2,6 @@
 use borrow.Author.Needs.{needs}
 use native.Mathlib.Omega.{arith}
 use mathlib.Core.Path.{sym}
-use denote.Ref.{now}
 use Rattle.imgproc.proofs.reading.Runs.{prefix-long, prefix-kept, sized, marked}
 use Rattle.imgproc.proofs.reading.mark_tiles.Statement.{statement}
 use Rattle.imgproc.proofs.reading.mark_tiles.Tie as tie
@@ -14,31 +13,18 @@ slice-reshare-prefix-gather : tie.Need-slice-reshare-prefix-gather
 slice-reshare-prefix-gather c = search needs
 
 slice-aggregate-gather : tie.Need-slice-aggregate-gather
-slice-aggregate-gather c =
-    let e = c .before .before .before .before in
-    let a = e .args in sym (prefix-long (a .packed) (a .config) (now (a .bytes)) (now (a .words)) (e .pre))
+slice-aggregate-gather c = sym (prefix-long (c .before .before .before .before .pre))
 
 gather-requires : tie.Need-gather-requires
 gather-requires c κs =
-    let e = c .before .before .before .before .before in
-    let a = e .args in (
-      prefix-kept (a .packed) (a .config) (now (a .bytes)) (now (a .words)) (e .pre),
-      sized (a .packed) (a .config) (now (a .bytes)) (now (a .words)) (e .pre),
-      omega (arith, e .pre .words-fit),
-    )
-
-mul-write-skips : tie.Need-mul-write-skips
-mul-write-skips c = search needs
+    let ready = c .before .before .before .before .before .pre in
+    (prefix-kept ready, sized ready, omega (arith, ready .words-fit))
 
 write-skips-requires : tie.Need-write-skips-requires
 write-skips-requires c κs =
     let f = c .before .before .before .before in
-    let e = f .before .before .before .before .before .before in
-    let a = e .args in (
-      sized (a .packed) (a .config) (now (a .bytes)) (now (a .words)) (e .pre),
-      record { picture = _; gathered = f .gather .ensures .gathered },
-      omega (arith, e .pre .bytes-fit),
-    )
+    let ready = f .before .before .before .before .before .before .pre in
+    (sized ready, record { picture = _; gathered = f .gather .ensures .gathered }, omega (arith, ready .bytes-fit))
 
 same-length : tie.Need-same-length
 same-length c = search needs
@@ -50,9 +36,7 @@ returns : tie.Need-returns
 returns c =
     let w = c .before .before in
     let f = w .before .before .before .before .before in
-    let e = f .before .before .before .before .before .before in
-    let a = e .args in
-    marked (a .packed) (a .config) (now (a .bytes)) (now (a .words)) (e .pre) (f .gather .ensures) (w .write-skips .ensures)
+    marked (f .before .before .before .before .before .before .pre) (f .gather .ensures) (w .write-skips .ensures)
 
 pub mark-tiles-spec : {M : Type 1} → statement M
 mark-tiles-spec =
@@ -62,7 +46,6 @@ mark-tiles-spec =
     slice-reshare-prefix-gather
     slice-aggregate-gather
     gather-requires
-    mul-write-skips
     write-skips-requires
     same-length
     same-length-2

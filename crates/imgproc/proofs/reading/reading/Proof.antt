@@ -4,7 +4,7 @@ use mathlib.Core.Path.{sym, _∙_}
 use lib.ListN.{length}
 use denote.Ref.{now}
 use Rattle.imgproc.specs.declared.ImgProcError.the-variants.{Image, DimensionMismatch}
-use Rattle.imgproc.proofs.WaysOut.{Pair, pair-of, source-kept, target-kept, ways}
+use Rattle.imgproc.proofs.WaysOut.{Pair, pair-of, paired, source-kept, ways}
 use Rattle.imgproc.proofs.reading.Ways.{says, room-says, refused-call, done}
 use Rattle.imgproc.proofs.reading.reading.Statement.{statement}
 use Rattle.imgproc.proofs.reading.reading.Tie as tie
@@ -95,20 +95,7 @@ read-picture-requires c κs =
     let p = pair (s .before) in
     let y = says (start (s .before) .args .config) (sym (s .check-settings .ensures) ∙ k .enum-told3 .given .1) in
     let fit = room-says (first (s .before) .before .layout .given .0 .0) (start (s .before) .args .config) _ _ (sym (r .check-room .ensures) ∙ j .enum-told4 .given .1) in
-    record {
-      from = source-kept p;
-      to = target-kept p;
-      wide = p .wide;
-      high = p .high;
-      element = y .element;
-      floor = y .floor;
-      kernel = y .kernel;
-      tile-width = y .tile-width;
-      tile-height = y .tile-height;
-      settings = y .settings;
-      bytes-fit = fit .0;
-      words-fit = fit .1;
-    }
+    record { pair = paired p; settings = y; bytes-fit = fit .0; words-fit = fit .1 }
 
 same-length : tie.Need-same-length
 same-length c = c .before .before .before .before .before .before .read-picture .kept .1 .1 .0

@@ -3,7 +3,6 @@ use borrow.Author.Needs.{needs}
 use native.Mathlib.Omega.{arith}
 use Prim.Native.Nat.{ℕ, _*_}
 use mathlib.Core.Path.{_≡_, sym, ap₂}
-use denote.Ref.{now}
 use Rattle.imgproc.specs.Grid.{tilesX, tilesY}
 use Rattle.imgproc.proofs.reading.Runs.{prefix-long, prefix-kept, judge-ready}
 use Rattle.imgproc.proofs.reading.judging.judge_picture.Statement.{statement}
@@ -13,7 +12,10 @@ abbrev start : tie.After-tiles-along2 → tie.Start
 start t = t .before .before .before .before .before .before .before
 
 -- the tiles are counted
-count : (t : tie.After-tiles-along2) → t .before .tiles-along .result * t .tiles-along2 .result ≡ tilesX (start t .args .config .grid) (start t .args .packed .width) * tilesY (start t .args .config .grid) (start t .args .packed .height)
+count : (t : tie.After-tiles-along2)
+    → let a = start t .args in
+    t .before .tiles-along .result * t .tiles-along2 .result
+    ≡ tilesX (a .config .grid) (a .packed .width) * tilesY (a .config .grid) (a .packed .height)
 count t = ap₂ (λ (x y : ℕ). x * y) (t .before .tiles-along .ensures) (t .tiles-along2 .ensures)
 
 mul-plane : tie.Need-mul-plane
@@ -28,26 +30,20 @@ tiles-along-requires-2 c κs = search needs
 mul-count : tie.Need-mul-count
 mul-count c = omega (arith, count c, start c .pre .0 .marks .bytes-fit)
 
-mul-marks : tie.Need-mul-marks
-mul-marks c = omega (arith, start c .pre .0 .marks .bytes-fit)
-
 add-end : tie.Need-add-end
 add-end c = omega (arith, count c, start c .pre .0 .marks .bytes-fit)
 
 slice-aggregate-build-tables : tie.Need-slice-aggregate-build-tables
 slice-aggregate-build-tables c =
-    let e = start (c .before) in
-    let a = e .args in sym (prefix-long (a .packed) (a .config) (now (a .bytes)) (now (a .words)) (e .pre .0 .marks))
+    sym (prefix-long (start (c .before) .pre .0 .marks))
 
 build-tables-requires : tie.Need-build-tables-requires
 build-tables-requires c κs =
-    let e = start (c .before .before) in
-    let a = e .args in (prefix-kept (a .packed) (a .config) (now (a .bytes)) (now (a .words)) (e .pre .0 .marks), omega (arith, e .pre .0 .tables-fit))
+    let room = start (c .before .before) .pre .0 in (prefix-kept (room .marks), omega (arith, room .tables-fit))
 
 slice-aggregate-judge-rows : tie.Need-slice-aggregate-judge-rows
 slice-aggregate-judge-rows c =
-    let e = start (c .before .before .before .before .before .before) in
-    let a = e .args in sym (prefix-long (a .packed) (a .config) (now (a .bytes)) (now (a .words)) (e .pre .0 .marks))
+    sym (prefix-long (start (c .before .before .before .before .before .before) .pre .0 .marks))
 
 sub-judge-rows : tie.Need-sub-judge-rows
 sub-judge-rows c = search needs
@@ -63,9 +59,8 @@ judge-rows-requires : tie.Need-judge-rows-requires
 judge-rows-requires c κs =
     let b = c .before .before .before .before .before .before in
     let t = b .before .before .before in
-    let e = start t in
-    let a = e .args in (
-      judge-ready (a .packed) (a .config) (now (a .bytes)) (now (a .words)) (e .pre .0) (t .before .tiles-along .result * t .tiles-along2 .result) (count t) (b .build-tables .ensures),
+    let e = start t in (
+      judge-ready (e .pre .0) (t .before .tiles-along .result * t .tiles-along2 .result) (count t) (b .build-tables .ensures),
       e .pre .1,
     )
 
@@ -86,7 +81,6 @@ judge-picture-spec =
     tiles-along-requires
     tiles-along-requires-2
     mul-count
-    mul-marks
     add-end
     slice-aggregate-build-tables
     build-tables-requires

@@ -8,6 +8,7 @@ use lib.ListN.{length}
 use denote.Ref.{now}
 use Rattle.image.specs.LayoutLaws.{area-small}
 use Rattle.imgproc.specs.ReadingSteps.{markedOver}
+use Rattle.image.specs.Views.{painted-sides}
 use Rattle.image.specs.PaintRows.{RowsPainted, rows-start, rows-same, rows-done, row-fits, part-long, rows-next, row-within-as}
 use Rattle.imgproc.proofs.reading.judging.Judgements.{RowsCounted, none-counted, next-counted, room-for-row, marked-pixel}
 use Rattle.imgproc.proofs.reading.judging.judge_rows.Statement.{statement}
@@ -110,7 +111,9 @@ returns c =
     let e : l .y ≡ a .packed .height = omega (arith, c .if1 .left, l .inv .0 .upto) in
     let r = subst (λ (n : ℕ). RowsCounted (a .config) (a .packed) (now (a .opened)) (l .counts) n) e (l .inv .1) in
     record {
-      leaves = rows-done (new s) _ _ _ (now (a .dst)) (l .y) (l .inv .0) (c .if1 .left);
+      leaves =
+          rows-done (new s) _ _ _ (now (a .dst)) (l .y) (l .inv .0) (c .if1 .left)
+          ∙ painted-sides (now (a .dst)) (a .dst-geometry) (new s) (s .pre .1 .1 .0) (s .pre .1 .1 .1);
       dark = r .dark;
       light = r .light;
       skipped = r .skipped;
