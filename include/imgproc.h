@@ -35,7 +35,7 @@
 
 /* The version, and the number of the calling form, which changes with every changed declaration. */
 #define IMGPROC_VERSION "0.1.0"
-#define IMGPROC_ABI 1
+#define IMGPROC_ABI 2
 
 /* The largest side of a picture. */
 #define IMGPROC_MAX_SIDE 4096
@@ -61,7 +61,7 @@ enum imgproc_refusal {
 
 /* The number of the archive's calling form. Each file that includes this header refers to it, so that an archive of
    another calling form does not link: the linker misses the name. Nobody has to call it. */
-uint32_t imgproc_abi_1(void);
+uint32_t imgproc_abi_2(void);
 #if defined(__has_attribute)
 #if __has_attribute(retain)
 #define IMGPROC_KEPT __attribute__((used, retain))
@@ -73,7 +73,7 @@ uint32_t imgproc_abi_1(void);
 #ifndef IMGPROC_KEPT
 #define IMGPROC_KEPT
 #endif
-static uint32_t (*const imgproc_abi_kept)(void) IMGPROC_KEPT = imgproc_abi_1;
+static uint32_t (*const imgproc_abi_kept)(void) IMGPROC_KEPT = imgproc_abi_2;
 #undef IMGPROC_KEPT
 
 /* Whether a range of len bytes holds the picture: 0, or layout. */
@@ -209,7 +209,7 @@ uint32_t imgproc_row_all_skip(size_t width, size_t height, size_t tile_width, si
    *light and *skipped receive the number of pixels of each kind, *comparisons that of the comparisons of samples in the
    closing and the opening. With t the number of tiles, refused: layout of src, layout of dst, 5, then 7 for the
    settings of the division, 6 where opening_kernel is even or below 3, 7 for the settings of the grid, method included,
-   7 for those of the threshold, then 8 where bytes_len is below 9 * width * height + 2 * t or words_len below
+   7 for those of the threshold, then 8 where bytes_len is below 9 * width * height + 2 * t or u64s_len below
    2 * (width + 1) * (height + 1) + 5 * t numbers. */
 uint32_t imgproc_reading(const uint8_t *src, size_t src_len, size_t src_width, size_t src_height, size_t src_stride,
                          uint8_t *dst, size_t dst_len, size_t dst_width, size_t dst_height, size_t dst_stride,
@@ -220,7 +220,7 @@ uint32_t imgproc_reading(const uint8_t *src, size_t src_len, size_t src_width, s
                          uint32_t method, double k, double dynamic_range,
                          size_t radius, uint32_t k_milli, uint32_t sauvola_dynamic_range,
                          uint8_t dark_value, uint8_t light_value,
-                         uint8_t *bytes, size_t bytes_len, uint64_t *words, size_t words_len,
+                         uint8_t *bytes, size_t bytes_len, uint64_t *u64s, size_t u64s_len,
                          uint64_t *dark, uint64_t *light, uint64_t *skipped, uint64_t *comparisons);
 
 /* The square root of x, correctly rounded: of -0.0 it is -0.0, of a NaN and of a value below zero a NaN. */

@@ -39,7 +39,7 @@ impl Rng {
     }
 }
 
-/// Bytes or words that buffers are filled with before a call, made from a seed alone so that no copy has to be kept.
+/// Bytes or u64s that buffers are filled with before a call, made from a seed alone so that no copy has to be kept.
 pub trait Word: Copy + PartialEq + 'static {
     fn noise(len: usize, seed: u64) -> Vec<Self>;
 }

@@ -21,7 +21,7 @@ pub trait Operator: Clone + Debug {
     /// Whether it gives the number of comparisons.
     const COUNTS: bool;
     fn name(&self) -> &'static str;
-    /// The words of workspace that document 01 asks for.
+    /// The u64s of workspace that document 01 asks for.
     fn room(&self, width: usize, height: usize) -> usize;
     fn flat(
         &self, src: &[u8], s: Geometry, dst: &mut [u8], d: Geometry, workspace: &mut [Self::Word],

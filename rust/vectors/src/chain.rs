@@ -37,7 +37,7 @@ pub struct Counts {
     pub comparisons: u64,
 }
 
-/// The lengths of the two workspaces: 9wh + 2t bytes and 2(w + 1)(h + 1) + 5t words, t the number of tiles.
+/// The lengths of the two workspaces: 9wh + 2t bytes and 2(w + 1)(h + 1) + 5t u64s, t the number of tiles.
 pub fn room(width: usize, height: usize, grid: &TileThresholdConfig) -> (usize, usize) {
     let tiles = width.div_ceil(grid.tile_width) * height.div_ceil(grid.tile_height);
     (9 * width * height + 2 * tiles, 2 * (width + 1) * (height + 1) + 5 * tiles)
