@@ -1,4 +1,4 @@
--- The answer to an input: the line of the reading of the picture that it is, or refusal 11. Definitions only.
+-- What `answer` promises: the line of the reading of the picture that an input is, or refusal 11. Definitions only.
 use Prim.Native.Nat.{ℕ}
 use mathlib.Core.Path.{_≡_}
 use mathlib.Core.List.{List, [], _∷_}
@@ -13,17 +13,24 @@ use Rattle.pgm.specs.declared.Parsed.the-variants.{Malformed}
 use Rattle.pgm.specs.Form.{Form, parsedNumber}
 use Rattle.pgm.specs.Line.{line, refusedLine, Writes}
 
--- document 01: element 31, target 200, floor 8; m = 3; Midrange tiles 16 by 16, radius 1, offset 0, contrast floor 12; radius 8,
--- k_milli 200, range 128, dark 0, light 255
+-- the settings of document 01: element 31, target 200, floor 8; m = 3; Midrange tiles 16 by 16, radius 1, offset 0,
+-- contrast floor 12; radius 8, k_milli 200, range 128, dark 0, light 255
 abbrev pub settings : ReadingConfig
 settings = record {
   division = record { «structuring_element» = 31; «target_luma» = 200; «denominator_floor» = 8 };
   «opening_kernel» = 3;
-  grid = record { «tile_width» = 16; «tile_height» = 16; «neighborhood_radius» = 1; «threshold_offset» = pos 0; «contrast_floor» = 12; method = Midrange };
+  grid = record {
+    «tile_width» = 16;
+    «tile_height» = 16;
+    «neighborhood_radius» = 1;
+    «threshold_offset» = pos 0;
+    «contrast_floor» = 12;
+    method = Midrange;
+  };
   sauvola = record { radius = 8; «k_milli» = 200; «dynamic_range» = 128; «dark_value» = 0; «light_value» = 255 };
 }
 
--- a picture of w by h without padding
+-- the geometry of a picture of w by h without padding
 abbrev pub tight : ℕ → ℕ → Geometry
 tight w h = record { width = w; height = h; stride = w }
 
@@ -34,7 +41,7 @@ pub record Buffers : Type 0 where
   pub words : List ℕ
   pub out : List ℕ
 
--- what a reading of a picture of w by h is lent, what it leaves, and what it answers
+-- what the reading of a picture of w by h is lent
 abbrev pub lentTo : ℕ → ℕ → List ℕ → Buffers → ReadingConfig → ReadingLent
 lentTo w h pixels lent s =
     record {
@@ -47,9 +54,11 @@ lentTo w h pixels lent s =
       words = lent .words;
     }
 
+-- what it leaves of the buffers
 abbrev pub leftBy : Buffers → ReadingLeft
 leftBy left = record { dst = left .dst; bytes = left .bytes; words = left .words }
 
+-- what a reading answers to what it is lent
 abbrev pub readOf : ReadingLent → Answer ReadingNumbers
 readOf lent = answerBy (first (readingConditions lent)) (numbersFrom lent)
 
@@ -74,7 +83,7 @@ pub record AnswersMalformed (lent : Buffers) (answer : ℕ) (left : Buffers) : T
   pub bytes-left : left .bytes ≡ lent .bytes
   pub words-left : left .words ≡ lent .words
 
--- the contract of `answer`: of a picture, for the sides and the pixels of its form; of any other input, refusal 11
+-- the contract of `answer`: to a picture, by the sides and the pixels of its form; to any other input, refusal 11
 pub record AnswersInput (input : List ℕ) (lent : Buffers) (answer : ℕ) (left : Buffers) : Type 0 where
   pub picture : (w h : ℕ) → (f : Form input w h) → AnswersPicture w h (f .pixels) lent answer left
   pub other : ((w h : ℕ) → Form input w h → ⊥) → AnswersMalformed lent answer left

@@ -1,5 +1,5 @@
--- The program's line and marks by the form of the input; and the first bytes of an input, one more than the longest picture
--- has, have the line of the whole. Assumes nothing.
+-- The program's line and marks by the form of the input; and the first bytes of an input, one more than the longest
+-- picture has, have the line of the whole. Assumes nothing.
 use Prim.Native.Nat.{ℕ, _≤_}
 use native.Mathlib.Omega.{arith}
 use mathlib.Core.Path.{_≡_, refl, sym, ap, subst, _∙_}
@@ -23,7 +23,8 @@ module _ (input : List ℕ) where
   pub line-picture : (w h : ℕ) (f : Form input w h) → programLine input ≡ pictureLine w h (f .pixels)
   unfolding programLine
   line-picture w h f =
-      parsed-by lineBy input (Picture w h (length (header w h))) (f, refl) ∙ ap (pictureLine w h) (after-header input w h f)
+      parsed-by lineBy input (Picture w h (length (header w h))) (f, refl)
+      ∙ ap (pictureLine w h) (after-header input w h f)
 
   pub line-other : Answers input Malformed → programLine input ≡ refusedLine (parsedNumber Malformed)
   unfolding programLine
@@ -46,12 +47,14 @@ pub line-start : (input : List ℕ) (m : ℕ) → inputLimit ≤ m → programLi
 unfolding programLine
 line-start input m enough = start-parsed input m enough lineBy (λ a b. refl)
 
--- a line that is written where there is room for any
+-- a line that is written into a buffer with room for any line is printed
 pub printed : (text before : List ℕ) {n : ℕ} (after : List ℕ) → lineRoom ≤ length before → Writes text before n after →
     Prints text before n after
 printed text before after l x = record {
   answers = x .answers ∙ ap (λ (b : Bool). cond b 0 (length text)) (le-ltb (length before) lineRoom l);
-  leaves = x .leaves ∙ ap (λ (b : Bool). cond b before (text ++ drop (length text) before)) (le-ltb (length before) lineRoom l);
+  leaves =
+      x .leaves
+      ∙ ap (λ (b : Bool). cond b before (text ++ drop (length text) before)) (le-ltb (length before) lineRoom l);
 }
 
 -- a program for which the first bytes are enough answers what was read of an input as it answers the whole

@@ -1,5 +1,5 @@
--- The whole program in three lines: "refused 11" exactly for an input that is no picture, "refused 1" exactly for a picture
--- with a zero side, and the six numbers of the reading for every other. Assumes nothing.
+-- The whole program in three lines: "refused 11" exactly for an input that is no picture, "refused 1" exactly for a
+-- picture with a zero side, and the six numbers of the reading for every other. Assumes nothing.
 use Prim.Native.Nat.{ℕ, _<_}
 use native.Mathlib.Omega.{arith}
 use mathlib.Core.Path.{_≡_, refl, sym, ap, _∙_}
@@ -25,7 +25,7 @@ pub record IsEmpty (input : List ℕ) : Type 0 where
   pub picture : IsPicture input
   pub zero : (picture .width ≡ 0) ⊎ (picture .height ≡ 0)
 
--- the program's line, for every input: one of three
+-- what the program's line is, for every input: one of three
 pub record Answered (input : List ℕ) : Type 0 where
   pub no-picture : (programLine input ≡ refusedLine 11) ↔ (IsPicture input → ⊥)
   pub empty-picture : (programLine input ≡ refusedLine 1) ↔ IsEmpty input
@@ -34,6 +34,7 @@ pub record Answered (input : List ℕ) : Type 0 where
       let c = readingOf settings w h (f .pixels) in
       programLine input ≡ line (w ∷ h ∷ c .dark ∷ c .light ∷ c .skipped ∷ c .comparisons ∷ [])
 
+-- `empty` says that a side is 0 exactly when one is
 zero-side : (w h : ℕ) → empty w h ≡ true → (w ≡ 0) ⊎ (h ≡ 0)
 zero-side w h e = go (eqb w 0) refl
   where
@@ -57,7 +58,7 @@ module _ (input : List ℕ) where
       line-picture input w h f
       ∙ ap (λ (c : Bool). cond c (refusedLine 1) (countsLine w h (readingOf settings w h (f .pixels)))) e
 
-  -- no number but 11 and 1 occurs, not 3 nor 8, and each of them where it should
+  -- the program refuses with no number but 11, an input that is no picture, and 1, a picture with a zero side
   pub refused-only : (n : ℕ) → programLine input ≡ refusedLine n →
       ((n ≡ 11) × (IsPicture input → ⊥)) ⊎ ((n ≡ 1) × IsEmpty input)
   refused-only n e = go (parsedOf input) (parsed-answers input)
@@ -78,6 +79,7 @@ module _ (input : List ℕ) where
               let rest = c .dark ∷ c .light ∷ c .skipped ∷ c .comparisons ∷ [] in
               absurd (not-refused w h n rest (sym (by-sides w h (p .0) false x) ∙ e))
 
+  -- the program's line is as `Answered` says
   pub answered : Answered input
   answered = record {
     no-picture = (

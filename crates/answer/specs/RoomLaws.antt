@@ -1,5 +1,5 @@
--- A picture of the accepted form with no zero side is read with the program's buffers, never refused; one with a zero side is
--- refused as empty whatever is lent. Assumes nothing.
+-- A picture of the accepted form with no zero side is read with the program's buffers and never refused; one with a
+-- zero side is refused as empty whatever is lent. Assumes nothing.
 use Prim.Native.Nat.{ℕ, _+_, _-_, _*_, _/_, _≤_, _<_}
 use native.Mathlib.Nat.{mul-le-mul, mul-comm}
 use native.Mathlib.Omega.{arith}
@@ -12,7 +12,15 @@ use Rattle.image.specs.LayoutLaws.{no-sides}
 use Rattle.imgproc.specs.declared.Check.the-variants.{Accepted, Refused}
 use Rattle.imgproc.specs.declared.ImgProcError.the-variants.{Image}
 use Rattle.imgproc.specs.GridCalls.{gridSettings, tileCount}
-use Rattle.imgproc.specs.Refusals.{Conditions, first, _then_, pairConditions, divisionSettings, sauvolaSettings, tableEntries}
+use Rattle.imgproc.specs.Refusals.{
+  Conditions,
+  first,
+  _then_,
+  pairConditions,
+  divisionSettings,
+  sauvolaSettings,
+  tableEntries,
+}
 use Rattle.imgproc.specs.RefusalLaws.{then-accepted, passes-last, source-refused, pair-taken}
 use Rattle.imgproc.specs.Reading.{readingSettings, readingRoom}
 use Rattle.pgm.specs.Form.{sideLimit}
@@ -25,10 +33,11 @@ unfolding first readingSettings divisionSettings gridSettings sauvolaSettings
 settings-taken = refl
 
 module _ (w h : ℕ) (W : 0 < w) (H : 0 < h) (ww : w ≤ sideLimit) (hh : h ≤ sideLimit) where
+  -- such a picture has no more pixels, tiles and table entries than the largest
   area : w * h ≤ mostPixels
   area = mul-le-mul ww hh
 
-  -- the layout of w × h bytes without padding
+  -- w × h bytes hold it without padding
   kept : (len : ℕ) → w * h ≤ len → Kept len (tight w h)
   kept len l = record {
     wide = W;
@@ -50,12 +59,18 @@ module _ (w h : ℕ) (W : 0 < w) (H : 0 < h) (ww : w ≤ sideLimit) (hh : h ≤ 
       let side = sideLimit + 1 in
       omega (arith, mul-le-mul {n₁ = w + 1} {m₁ = h + 1} {n₂ = side} {m₂ = side} (omega arith) (omega arith))
 
+  -- its reading is accepted with the program's buffers
   pub room-enough : (pixels dst bytes words : ℕ) →
       w * h ≤ pixels → mostPixels ≤ dst → mostBytes ≤ bytes → mostWords ≤ words →
-      first (pairConditions pixels (tight w h) dst (tight w h) then readingSettings settings then readingRoom (tight w h) settings bytes words) ≡ Accepted
+      first
+      (pairConditions pixels (tight w h) dst (tight w h)
+      then readingSettings settings
+      then readingRoom (tight w h) settings bytes words)
+      ≡ Accepted
   room-enough pixels dst bytes words p d b q =
       let room = readingRoom (tight w h) settings bytes words in
-      then-accepted (pairConditions pixels (tight w h) dst (tight w h)) (readingSettings settings then room) (pair-taken (kept pixels p) (kept dst (omega (arith, area))) refl refl)
+      then-accepted (pairConditions pixels (tight w h) dst (tight w h)) (readingSettings settings then room)
+      (pair-taken (kept pixels p) (kept dst (omega (arith, area))) refl refl)
       ∙ then-accepted (readingSettings settings) room settings-taken
       ∙ passes-last _ _
       (rw (

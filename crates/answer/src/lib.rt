@@ -1,5 +1,5 @@
-// The line that answers an input: the counts of the reading of the picture that it is, or a refusal. No public call has a
-// condition.
+// Answers an input with one line: the counts of the reading of the picture that it is, or a refusal. No public call has
+// a condition.
 use image::Geometry;
 use imgproc::illumination::BackgroundDivideConfig;
 use imgproc::morphology::tally;
@@ -22,22 +22,23 @@ pub const PIXELS: usize = pgm::SIDE_LIMIT * pgm::SIDE_LIMIT;
 // The bytes of the longest header, "P5 60 60 255" and a line feed.
 const HEADER: usize = 13;
 
-// What a program reads of its input, 3,614 bytes: one more than the longest picture has, so that a byte too many is seen.
+// How many bytes a program reads of its input, 3,614: one more than the longest picture has, so that a byte too many is
+// seen.
 pub const INPUT: usize = HEADER + PIXELS + 1;
 
-// A buffer that holds any line.
+// The length of a buffer that holds any line.
 pub const LINE: usize = pgm::LINE_ROOM;
 
 // The tiles of the largest picture, each 16 × 16.
 const TILES: usize = 4 * 4;
 
-// The workspaces that a reading of the largest picture asks for: 9wh + 2t bytes, 32,432, and 2(w + 1)(h + 1) + 5t u64s,
-// 7,522.
+// The byte workspace that a reading of the largest picture asks for: 9wh + 2t bytes, 32,432.
 const BYTES: usize = 9 * PIXELS + 2 * TILES;
 
+// The u64 workspace that it asks for: 2(w + 1)(h + 1) + 5t numbers, 7,522.
 const WORDS: usize = 2 * (pgm::SIDE_LIMIT + 1) * (pgm::SIDE_LIMIT + 1) + 5 * TILES;
 
-// Gives the Rust's settings, and an opening with kernel 3.
+// Gives the default settings of the published Rust, and an opening with kernel 3.
 fn settings() -> ReadingConfig
     ensures { λ r. ⌜ r ≡ settings ⌝ }
 {
@@ -79,10 +80,18 @@ fn answer_picture(
     words: &mut [u64],
     out: &mut [u8],
 ) -> usize
-    ensures { λ r. ⌜ AnswersPicture width height (now (pixels .entry))
-        (record { dst = now (dst .entry); bytes = now (bytes .entry); words = now (words .entry); out = now (out .entry) })
+    ensures { λ r.
+        ⌜
+        AnswersPicture width height (now (pixels .entry))
+        (record {
+          dst = now (dst .entry);
+          bytes = now (bytes .entry);
+          words = now (words .entry);
+          out = now (out .entry);
+        })
         r
-        (record { dst = now (dst .exit); bytes = now (bytes .exit); words = now (words .exit); out = now (out .exit) }) ⌝ }
+        (record { dst = now (dst .exit); bytes = now (bytes .exit); words = now (words .exit); out = now (out .exit) })
+        ⌝ }
 {
     let geometry = Geometry {
         width: width,
@@ -103,10 +112,18 @@ pub fn answer(
     words: &mut [u64],
     out: &mut [u8],
 ) -> usize
-    ensures { λ r. ⌜ AnswersInput (now (input .entry))
-        (record { dst = now (dst .entry); bytes = now (bytes .entry); words = now (words .entry); out = now (out .entry) })
+    ensures { λ r.
+        ⌜
+        AnswersInput (now (input .entry))
+        (record {
+          dst = now (dst .entry);
+          bytes = now (bytes .entry);
+          words = now (words .entry);
+          out = now (out .entry);
+        })
         r
-        (record { dst = now (dst .exit); bytes = now (bytes .exit); words = now (words .exit); out = now (out .exit) }) ⌝ }
+        (record { dst = now (dst .exit); bytes = now (bytes .exit); words = now (words .exit); out = now (out .exit) })
+        ⌝ }
 {
     let Parsed::Picture(width, height, at) = pgm::parse(input) else {
         return pgm::refused_line(MALFORMED, out);
@@ -125,7 +142,7 @@ pub fn answer_and_mark(input: &[u8], dst: &mut [u8; PIXELS], out: &mut [u8]) -> 
     answer(input, dst, &mut bytes, &mut words, out)
 }
 
-// Gives the part of a buffer that was read: its first n bytes, or all of it.
+// Gives the part of a buffer that was read: its first n bytes, or all of it where n is more.
 pub fn read_part(buffer: &[u8; INPUT], n: usize) -> &[u8]
     ensures { λ r. ⌜ ReadPart (now (buffer .entry)) n (now r) ⌝ }
 {

@@ -1,12 +1,11 @@
 -- What the program `column` writes for each input: the line of the program `reading`, and the rows of its picture.
 -- Definitions only.
-use Prim.Native.Nat.{ℕ, _+_, _*_, _≤_}
-use mathlib.Core.Path.{_≡_}
+use Prim.Native.Nat.{ℕ, _+_, _*_}
 use mathlib.Core.Bool.{cond}
 use mathlib.Core.List.{List, [], _++_}
 use lib.Dec.{eqb}
-use lib.ListN.{length, drop}
-use Rattle.image.specs.Plane.{pixel, plane, overwritten}
+use lib.ListN.{drop}
+use Rattle.image.specs.Plane.{plane}
 use Rattle.imgproc.specs.declared.reading.judging.Judgement.{Judgement}
 use Rattle.imgproc.specs.declared.reading.judging.Judgement.the-variants.{Dark, Light, Skipped}
 use Rattle.imgproc.specs.Reading.{judged}
@@ -28,7 +27,7 @@ markOf Skipped = 46
 abbrev pub rowByte : (ℕ → ℕ → ℕ) → ℕ → ℕ → ℕ → ℕ
 rowByte mark w x y = cond (eqb x w) 10 (mark x y)
 
--- h rows of w marks and a line feed each
+-- h rows, each of w marks and a line feed
 abbrev pub rowsOf : ℕ → ℕ → (ℕ → ℕ → ℕ) → List ℕ
 rowsOf w h mark = plane (w + 1) h (rowByte mark w)
 
@@ -50,21 +49,6 @@ programRows input = rowsBy (parsedOf input) input
 abbrev pub programDrawing : List ℕ → List ℕ
 programDrawing input = programLine input ++ programRows input
 
--- a buffer that holds any line, and 60 rows of 60 marks and a line feed: 3,788
+-- the length of a buffer that holds any line, and 60 rows of 60 marks and a line feed each: 3,788
 abbrev pub drawingRoom : ℕ
 drawingRoom = lineRoom + (sideLimit + 1) * sideLimit
-
--- the mark of a destination's byte
-abbrev pub inkOf : ℕ → ℕ
-inkOf value = cond (eqb value (settings .sauvola .«dark_value»)) 35 46
-
--- the rows can be drawn: the pixels are there, and room for the marks
-pub record Room (pixels : List ℕ) (w h : ℕ) (out : List ℕ) (at : ℕ) : Type 0 where
-  pub small : w ≤ sideLimit
-  pub holds : w * h ≤ length pixels
-  pub fits : at + (w + 1) * h ≤ length out
-
--- the contract of `draw_rows`: the rows of the bytes' marks are written from `at` on, and the answer is the place after them
-pub record DrawsRows (pixels : List ℕ) (w h : ℕ) (out : List ℕ) (at answer : ℕ) (out′ : List ℕ) : Type 0 where
-  pub answers : answer ≡ at + (w + 1) * h
-  pub leaves : out′ ≡ overwritten at (rowsOf w h (λ x y. inkOf (pixel pixels w x y))) out

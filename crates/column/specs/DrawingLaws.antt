@@ -1,4 +1,5 @@
--- What is drawn by the form of the input; and the first bytes of an input have the drawing of the whole. Assumes nothing.
+-- The rows that are drawn, by the form of the input; and the first bytes of an input have the drawing of the whole.
+-- Assumes nothing.
 use Prim.Native.Nat.{ℕ, _≤_}
 use mathlib.Core.Path.{_≡_, refl, ap, ap₂, _∙_}
 use mathlib.Core.List.{List, [], _++_}
@@ -11,17 +12,17 @@ use Rattle.pgm.specs.ParseLaws.{parsed-by, start-parsed}
 use Rattle.answer.specs.ProgramLaws.{line-start}
 use Rattle.column.specs.Drawing.{pictureRows, rowsBy, programRows, programDrawing}
 
--- the rows, once it is known what is parsed
+-- the rows are those of any r that meets `Answers`
 pub rows-by : (input : List ℕ) (r : Parsed) → Answers input r → programRows input ≡ rowsBy r input
 unfolding programRows
 rows-by input r a = parsed-by rowsBy input r a
 
--- those of a picture
+-- the rows of an input that is a picture are the picture's
 pub rows-picture : (input : List ℕ) (w h : ℕ) (f : Form input w h) → programRows input ≡ pictureRows w h (f .pixels)
 rows-picture input w h f =
     rows-by input (Picture w h (length (header w h))) (f, refl) ∙ ap (pictureRows w h) (after-header input w h f)
 
--- of an input that is no picture nothing is drawn
+-- an input that is no picture has no rows
 pub rows-other : (input : List ℕ) → Answers input Malformed → programRows input ≡ []
 rows-other input none = rows-by input Malformed none
 

@@ -1,5 +1,5 @@
 // Reads a picture as the program `reading` does, writes the same line, and draws under it the rows of the destination:
-// '#' for each pixel that is judged dark, '.' for every other. Of an input that is refused nothing is drawn.
+// '#' for each pixel that is judged dark, '.' for every other. For an input that is refused it draws nothing.
 use libc::STDIN_FILENO;
 use libc::STDOUT_FILENO;
 use pgm::Parsed;
@@ -8,9 +8,10 @@ ghost use mathlib.Core.Path.{_≡_};
 ghost use lib.ListN.{length};
 ghost use Rattle.image.specs.Plane.{pixel};
 ghost use Rattle.answer.specs.Program.{Prints, PrintsStart};
-ghost use Rattle.column.specs.Drawing.{inkOf, rowByte, programDrawing, drawingRoom, Room, DrawsRows};
+ghost use Rattle.column.specs.Drawing.{rowByte, programDrawing, drawingRoom};
+ghost use Rattle.column.specs.Steps.{inkOf, Room, DrawsRows};
 
-// A buffer that holds any line, and 60 rows of 60 marks and a line feed: 3,788 bytes.
+// The length of a buffer that holds any line, and 60 rows of 60 marks and a line feed each: 3,788.
 const DRAWING: usize = answer::LINE + (pgm::SIDE_LIMIT + 1) * pgm::SIDE_LIMIT;
 
 // Gives the mark of a destination's byte: the settings mark a dark pixel with 0.

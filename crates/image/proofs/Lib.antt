@@ -1,5 +1,4 @@
--- The laws that the proofs of this crate share.
+-- The laws that several proofs of this crate cite. What one proof alone needs stands beside it.
 pub mod Ways
 pub mod Places
-pub mod Copies
 pub mod Rooms

@@ -1,4 +1,5 @@
--- A place that was handed out lies in the slice; and what the pixel and row calls answer, from the layout l that they hold. Assumes nothing.
+-- A pixel or row that is not refused lies in the slice; and one law for each way out of `get`, `set`, `row` and `row_mut`, where l is the layout that
+-- the code holds. Assumes nothing.
 use Prim.Native.Nat.{ℕ, _+_, _-_, _*_, _≤_, _<_}
 use native.Mathlib.Nat.{add-sub-cancel-left, zero-add}
 use native.Mathlib.Omega.{arith}
@@ -42,12 +43,15 @@ module _ (d : List ℕ) (g : Geometry) {l : Layout} where
 
     pub set-refused : (b : ℕ) {e r : LumaError} → l ≡ Invalid e → r ≡ refusalOf l → Sets d g x y b (refused (numberOf r)) d
     set-refused b i q =
-        record { answers = ap (λ (k : LumaError). refused (numberOf k)) (q ∙ ap refusalOf i) ∙ ap writtenIn (sym i ∙ is); leaves = ap (λ (k : Layout). bytesIn k d x y b) (sym i ∙ is) }
+        record {
+          answers = ap (λ (k : LumaError). refused (numberOf k)) (q ∙ ap refusalOf i) ∙ ap writtenIn (sym i ∙ is);
+          leaves = ap (λ (k : Layout). bytesIn k d x y b) (sym i ∙ is);
+        }
 
     pub set-done : (b : ℕ) {v : Geometry} → l ≡ Valid v → Sets d g x y b (accepted bare) (set d (y * v .stride + x) b)
     set-done b i = record { answers = ap writtenIn (sym i ∙ is); leaves = ap (λ (k : Layout). bytesIn k d x y b) (sym i ∙ is) }
 
--- the part that is handed out, by its bytes and its place
+-- `row` and `row_mut` hand out r: its bytes and its place are the row's
 module _ (d : RefT (List ℕ)) (g : Geometry) (y : ℕ) {l : Layout} (is : l ≡ rowLayout (length (now d)) g y) {r : RefT (List ℕ)} where
   pub row-empty : {e : LumaError} → l ≡ Invalid e → now r ≡ [] → ptr r ≡ (ptr d .0, 0 + ptr d .1) → Hands d g y r
   row-empty i b p = record {

@@ -1,4 +1,5 @@
--- One law for each way out of `validate_layout`: the tests passed and the one that was met give the layout. Assumes nothing.
+-- One law for each way out of `validate_layout`, `check_pixel` and `check_row`: the tests that were passed, and the one that was met, give the layout.
+-- Assumes nothing.
 use Prim.Native.Nat.{ℕ, _-_, _/_, _≤_, _<_}
 use native.Mathlib.Nat.{div-lt-iff-lt-mul, le-div-iff-mul-le, mul-comm, pos-of-ne-zero}
 use native.Mathlib.Omega.{arith}
@@ -37,7 +38,7 @@ module _ (len : ℕ) (g : Geometry) where
         pub no-row : len < g .width → Invalid BufferTooSmall ≡ layoutOf len g
         no-row l = short (omega arith)
 
-        -- the needed length is tested by a quotient, with nothing that wraps
+        -- the code tests the needed length by a quotient, so that nothing wraps
         module _ (l : g .width ≤ len) where
           some : 0 < g .stride
           some = omega (arith, pos-of-ne-zero a)
@@ -86,7 +87,7 @@ module _ (len : ℕ) (g : Geometry) where
                   le-ltb sideLimit (g .height) h,
                 )
 
--- the ways out of a place asked for by number, from the layout l that the code holds
+-- `check_pixel` and `check_row`, where l is the layout that the code holds
 module _ (len : ℕ) (g : Geometry) {l : Layout} (is : l ≡ layoutOf len g) where
   asked-refused : (b : Bool) {e : LumaError} → l ≡ Invalid e → l ≡ askedFor (layoutOf len g) b
   asked-refused b i = i ∙ ap (λ (k : Layout). askedFor k b) (sym i ∙ is)

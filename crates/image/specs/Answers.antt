@@ -8,7 +8,7 @@ pub data Answer (A : Type 0) : Type 0 where
   accepted : A → Answer A
   refused : ℕ → Answer A
 
--- the values of a call with nothing else to tell
+-- the value of an accepted call that has nothing more to tell
 pub data Bare : Type 0 where
   bare : Bare
 
@@ -17,7 +17,7 @@ abbrev pub answerNumber : {A : Type 0} → Answer A → ℕ
 answerNumber (accepted v) = 0
 answerNumber (refused n) = n
 
--- a lent place for values, at exit: those of an accepted call, or what it held
+-- what a lent place for values holds after the call: the values of an accepted call, or what it held before
 abbrev pub valuesOut : {A : Type 0} → Answer A → A → A
 valuesOut (accepted v) held = v
 valuesOut (refused n) held = held
@@ -27,12 +27,13 @@ pub record Condition (Refusal : Type 0) : Type 0 where
   pub fits : Bool
   pub refusal : Refusal
 
--- the same conditions with the refusals' numbers
+-- a list of conditions with the number of each refusal in its place
 abbrev pub numbered : {K : Type 0} → (K → ℕ) → List (Condition K) → List (Condition ℕ)
 numbered number [] = []
 numbered number (c ∷ cs) = record { fits = c .fits; refusal = number (c .refusal) } ∷ numbered number cs
 
--- the answer to a list of numbered conditions: refused with the number of the first that fits, else accepted with its values
+-- the answer to a list of numbered conditions: refused with the number of the first that fits, accepted with the values
+-- where none fits
 unfoldable pub answerTo : {A : Type 0} → List (Condition ℕ) → A → Answer A
 answerTo [] v = accepted v
 answerTo (c ∷ cs) v = cond (c .fits) (refused (c .refusal)) (answerTo cs v)

@@ -1,4 +1,5 @@
--- Rows copied from a strided picture into a packed plane of a workspace, and back out. Definitions only.
+-- What `pack` and `unpack` promise: rows of a strided picture go into a packed plane of a workspace, and back out.
+-- Definitions only.
 use Prim.Native.Nat.{ℕ, _+_, _*_}
 use mathlib.Core.Path.{_≡_}
 use mathlib.Core.Bool.{cond}
@@ -20,17 +21,18 @@ copiedAnswer Done = accepted bare
 copiedAnswer (Refused e) = refused (numberOf e)
 copiedAnswer WorkspaceTooSmall = refused 8
 
--- the answer of a copy: the layout's refusal, else 8 where the w × h bytes from `at` do not lie in a workspace of room bytes
+-- the answer of a copy: the layout's refusal; then 8 where the w × h bytes from `at` on do not lie in a workspace of
+-- `room` bytes
 abbrev pub copiedIn : Layout → ℕ → ℕ → Answer Bare
 copiedIn (Invalid e) at room = refused (numberOf e)
 copiedIn (Valid g) at room = cond (ltb room (at + g .width * g .height)) (refused 8) (accepted bare)
 
--- the workspace after rows were packed into it
+-- the workspace after `pack`: the packed picture from `at` on, or all as it was where the call is refused
 abbrev pub packedIn : Answer Bare → Geometry → List ℕ → ℕ → List ℕ → List ℕ
 packedIn (accepted v) g src at ws = overwritten at (picture src g) ws
 packedIn (refused n) g src at ws = ws
 
--- the destination after rows of a workspace were painted into it
+-- the destination after `unpack`: the plane in its rows, or all as it was where the call is refused
 abbrev pub unpackedIn : Answer Bare → Geometry → List ℕ → ℕ → List ℕ → List ℕ
 unpackedIn (accepted v) g ws at dst = paintedOn dst g (part at (g .width * g .height) ws)
 unpackedIn (refused n) g ws at dst = dst

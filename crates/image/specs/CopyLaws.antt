@@ -1,5 +1,5 @@
--- Copies into and out of a workspace that are never refused: the layout is valid and the plane has room.
--- Assumes nothing.
+-- What `pack` and `unpack` leave where the layout is valid and the plane lies in the workspace: they are not refused
+-- then. Assumes nothing.
 use mathlib.Core.Path.{_≡_, sym, ap, ap₂, _∙_}
 use mathlib.Core.List.{List}
 use Prim.Native.Nat.{ℕ, _+_, _*_, _≤_}
@@ -15,16 +15,18 @@ use Rattle.image.specs.PlaneLaws.{length-overwritten, part-overwritten}
 use Rattle.image.specs.Views.{length-picture}
 use Rattle.image.specs.Copy.{copiedIn, packedIn, unpackedIn, Packs, Unpacks}
 
+-- such a copy is accepted
 done : (len : ℕ) (g : Geometry) (at room : ℕ) → Kept len g → at + g .width * g .height ≤ room
     → copiedIn (layoutOf len g) at room ≡ accepted bare
 done len g at room k l = rw (kept-valid k, le-ltb room (at + g .width * g .height) l)
 
 module _ {src : List ℕ} {g : Geometry} {at : ℕ} {ws ws′ : List ℕ} {r : Answer Bare}
     (k : Kept (length src) g) (l : at + g .width * g .height ≤ length ws) (p : Packs src g at ws r ws′) where
+  -- the workspace holds the packed picture from `at` on
   pub packs-done : ws′ ≡ overwritten at (picture src g) ws
   packs-done = p .leaves ∙ ap (λ (c : Answer Bare). packedIn c g src at ws) (done (length src) g at (length ws) k l)
 
-  -- the plane that was packed, and the workspace's length
+  -- the workspace keeps its length, and its plane at `at` is the picture
   pub packs-plane : (length ws′ ≡ length ws) × (part at (g .width * g .height) ws′ ≡ picture src g)
   packs-plane =
       let n = length-picture src g in
@@ -33,7 +35,7 @@ module _ {src : List ℕ} {g : Geometry} {at : ℕ} {ws ws′ : List ℕ} {r : A
         ap₂ (λ (m : ℕ) (d : List ℕ). part at m d) (sym n) packs-done ∙ part-overwritten at (picture src g) ws fits,
       )
 
--- the destination that was painted
+-- the destination has the plane in its rows
 pub unpacks-done : {ws : List ℕ} {at : ℕ} {dst dst′ : List ℕ} {g : Geometry} {r : Answer Bare}
     → Kept (length dst) g → at + g .width * g .height ≤ length ws → Unpacks ws at dst g r dst′
     → dst′ ≡ paintedOn dst g (part at (g .width * g .height) ws)

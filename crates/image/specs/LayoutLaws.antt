@@ -11,22 +11,33 @@ use Rattle.image.specs.declared.LumaError.{LumaError}
 use Rattle.image.specs.declared.LumaError.the-variants.{EmptyDimensions, OutsidePicture}
 use Rattle.image.specs.declared.Layout.{Layout}
 use Rattle.image.specs.declared.Layout.the-variants.{Valid, Invalid}
-use Rattle.image.specs.Layout.{Kept, neededLength, layoutOf, askedFor, pixelLayout, rowLayout, sideLimit, areaLimit}
+use Rattle.image.specs.Layout.{
+  Kept,
+  neededLength,
+  layoutOf,
+  askedFor,
+  pixelLayout,
+  rowLayout,
+  sideLimit,
+  areaLimit,
+}
 
--- a choice whose first answer is not the one at hand came to its second
+-- a choice whose result is not its first branch took its second
 passed : {A : Type 0} (b : Bool) (a x v : A) → (a ≡ v → ⊥) → cond b a x ≡ v → (b ≡ false) × (x ≡ v)
 passed true a x v n e = absurd (n e)
 passed false a x v n e = (refl, e)
 
--- of two tests neither holds, or both do
+-- where "one or the other" fails, neither test holds
 pub neither : (a b : Bool) → (a || b) ≡ false → (a ≡ false) × (b ≡ false)
 neither true b e = let z : _≡_ {A = ℕ} 0 1 = cc in absurd (omega arith)
 neither false b e = (refl, e)
 
+-- where "one and the other" holds, both tests hold
 pub both : (a b : Bool) → (a && b) ≡ true → (a ≡ true) × (b ≡ true)
 both true b e = (refl, e)
 both false b e = let z : _≡_ {A = ℕ} 0 1 = cc in absurd (omega arith)
 
+-- no layout is both invalid and valid
 never : (e : LumaError) (g : Geometry) → Invalid e ≡ Valid g → ⊥
 never e g p = let z : _≡_ {A = ℕ} 0 1 = cc in omega arith
 
@@ -54,7 +65,7 @@ kept-as len g v e =
     same : {a b : Geometry} → Valid a ≡ Valid b → a ≡ b
     same {a} {b} p = cc
 
--- and whatever `Kept` holds of is valid
+-- a geometry for which `Kept` holds is valid
 pub kept-valid : {len : ℕ} {g : Geometry} → Kept len g → layoutOf len g ≡ Valid g
 unfolding layoutOf
 kept-valid {len} {g} k =
@@ -67,7 +78,7 @@ kept-valid {len} {g} k =
       le-ltb sideLimit (g .height) (k .small-height),
     )
 
--- and is not refused
+-- and it is not refused
 pub kept-taken : {len : ℕ} {g : Geometry} {e : LumaError} → Kept len g → layoutOf len g ≡ Invalid e → ⊥
 kept-taken {len} {g} {e} k r = never e g (sym r ∙ kept-valid k)
 
@@ -77,10 +88,11 @@ pub no-sides : (len : ℕ) (g : Geometry) → (eqb (g .width) 0 || eqb (g .heigh
 unfolding layoutOf
 no-sides len g e = rw e
 
--- two sides within the limit bound an area, and so do those of a picture
+-- two sides within the limit have an area within its limit
 pub sides-small : (a b : ℕ) → a ≤ sideLimit → b ≤ sideLimit → a * b ≤ areaLimit
 sides-small a b A B = mul-le-mul {n₂ = sideLimit} {m₂ = sideLimit} A B
 
+-- so has a picture whose layout is valid
 pub area-small : {len : ℕ} {g : Geometry} → Kept len g → g .width * g .height ≤ areaLimit
 area-small {len} {g} k = sides-small (g .width) (g .height) (k .small-width) (k .small-height)
 
@@ -90,11 +102,11 @@ row-within {len} {g} k y t =
     let rows = mul-le-mul-right {m = y} {n = g .height - 1} (g .stride) (omega arith) in
     omega (arith, k .fits, mul-comm (g .stride) (g .height - 1))
 
--- a row of a valid layout, asked for inside
+-- row y of a valid layout is not refused where y is below the height
 pub row-asked : {len : ℕ} {g : Geometry} → Kept len g → (y : ℕ) → y < g .height → rowLayout len g y ≡ Valid g
 row-asked {len} {g} k y t = rw (kept-valid k, lt-ltb y (g .height) t)
 
--- a place that was handed out lies in a valid layout
+-- where a place is not refused, the layout is valid and the place lies in the picture
 module _ (len : ℕ) (g v : Geometry) where
   asked-inside : (l : Layout) (b : Bool) → askedFor l b ≡ Valid v → (l ≡ Valid v) × (b ≡ true)
   asked-inside (Valid u) true e = (e, refl)

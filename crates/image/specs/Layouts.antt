@@ -8,11 +8,11 @@ use Rattle.image.specs.declared.Layout.{Layout}
 use Rattle.image.specs.Answers.{answerNumber}
 use Rattle.image.specs.Layout.{sideLimit, layoutOf, layoutAnswer, pixelLayout, rowLayout}
 
--- the number of a layout, and 0 of a valid one
+-- the number of a layout's refusal, and 0 for a valid one
 abbrev number : Layout → ℕ
 number l = answerNumber (layoutAnswer l)
 
--- the layout of a slice of len bytes
+-- the number of a layout in a slice of len bytes
 abbrev pub layout : ℕ → ℕ → ℕ → ℕ → ℕ
 unfolding layoutOf
 layout len width height stride =
@@ -46,13 +46,14 @@ layouts =
     (layout (sideLimit + 1) (sideLimit + 1) 1 (sideLimit + 1) gives 4) ∷
     (layout sideLimit sideLimit 1 sideLimit gives 0) ∷
     (layout (sideLimit + 1) 1 (sideLimit + 1) 1 gives 4) ∷
-    -- outside a layout that is valid, and of one that is not
+    -- a place outside is 9 where the layout is valid, and has the layout's number where it is not
     (number (pixelLayout 6 (record { width = 2; height = 2; stride = 4 }) 1 1) gives 0) ∷
     (number (pixelLayout 6 (record { width = 2; height = 2; stride = 4 }) 2 0) gives 9) ∷
     (number (pixelLayout 6 (record { width = 2; height = 2; stride = 4 }) 0 2) gives 9) ∷
     (number (rowLayout 5 (record { width = 2; height = 2; stride = 4 }) 7) gives 3) ∷
     []
 
+-- no case is wrong
 pub layouts-hold : wrong 1 layouts ≡ []
 unfolding layouts layoutOf
 layouts-hold = refl

@@ -1,7 +1,17 @@
 -- Rows written one after another: a destination whose first y rows are painted, and a workspace that holds the first y
 -- rows packed. Assumes nothing.
 use Prim.Native.Nat.{ℕ, zero, suc, _+_, _-_, _*_, _/_, _%_, _≤_, _<_}
-use native.Mathlib.Nat.{div-add-mod', mod-lt, suc-mul, mul-le-mul-right, mul-comm, zero-add, eq-or-lt-of-le, mul-zero, add-zero}
+use native.Mathlib.Nat.{
+  div-add-mod',
+  mod-lt,
+  suc-mul,
+  mul-le-mul-right,
+  mul-comm,
+  zero-add,
+  eq-or-lt-of-le,
+  mul-zero,
+  add-zero,
+}
 use native.Mathlib.Decide.{decLt, ℕ-discrete}
 use native.Mathlib.Omega.{arith}
 use native.Mathlib.Numerals.{add-one}
@@ -16,9 +26,17 @@ use lib.Seq.{ext-getD, getD-append-add, take-at, drop-at, drop-drop, length-take
 use borrow.Author.Tests.{lt-ltb, le-ltb}
 use borrow.Rule.Slice.PartMut.{putMid}
 use Rattle.image.specs.Plane.{pixel, plane, mapFrom, paintedAt, painted, overwritten}
-use Rattle.image.specs.PlaneLaws.{length-plane, pixel-plane, is-plane, length-overwritten, overwritten-before, overwritten-within, overwritten-after}
+use Rattle.image.specs.PlaneLaws.{
+  length-plane,
+  pixel-plane,
+  is-plane,
+  length-overwritten,
+  overwritten-before,
+  overwritten-within,
+  overwritten-after,
+}
 
--- a part that was lent to a call and came back as r
+-- a part from a to e that was lent to a call, and came back as r, is r written at a
 pub put-part : (a e : ℕ) (d r : List ℕ) → a ≤ e → length r ≡ e - a → putMid a (e - a) d r ≡ overwritten a r d
 put-part a e d r t l =
     ap (λ (k : List ℕ). take a d ++ (r ++ k)) (drop-drop (e - a) a d ∙ ap (λ (n : ℕ). drop (a + n) d) (sym l))
@@ -55,7 +73,7 @@ module _ (p : List ℕ) (w h st : ℕ) (d : List ℕ) where
       let xs : x < st = omega arith in
       painted-byte (y * st + x) l ∙ simp (digits-mod y xs, digits-div y xs, lt-ltb x w a, lt-ltb y h b)
 
--- before the first row
+-- painting no rows changes nothing
 pub painted-none : (p : List ℕ) (w st : ℕ) (d : List ℕ) → painted p w 0 st d ≡ d
 painted-none p w st d =
     ext-getD 0 _ _ (length-painted p w 0 st d)
@@ -67,7 +85,7 @@ painted-none p w st d =
     none a b true t e = rw e
     none a b false t e = refl
 
--- row y written after the rows before it
+-- row y, written into a destination whose first y rows are painted, makes y + 1 painted rows
 module _ (p : List ℕ) (w st y : ℕ) (d r : List ℕ) (ws : w ≤ st) (sp : 0 < st) (fits : y * st + w ≤ length d)
     (long : length r ≡ w) (is : (x : ℕ) → x < w → getD r x 0 ≡ pixel p w x y) where
   before : List ℕ
@@ -77,6 +95,7 @@ module _ (p : List ℕ) (w st y : ℕ) (d r : List ℕ) (ws : w ≤ st) (sp : 0 
   unfolding before
   size = length-painted p w y st d
 
+  -- a byte outside the row is as it was
   outside : (i : ℕ) → (i < y * st) ⊎ (y * st + w ≤ i) → getD (overwritten (y * st) r before) i 0 ≡ getD before i 0
   outside i (inl t) = overwritten-before (y * st) r before (omega (arith, size)) i t
   outside i (inr t) =
@@ -91,6 +110,7 @@ module _ (p : List ℕ) (w st y : ℕ) (d r : List ℕ) (ws : w ≤ st) (sp : 0 
     place : i / st * st + i % st ≡ i
     place = div-add-mod' i st
 
+    -- byte i, by whether it lies in a column of the picture, and before, in or after row y
     byte : Dec (i % st < w) → Dec (i / st < y) → Dec (i / st ≡ y)
         → getD (overwritten (y * st) r before) i 0 ≡ paintedAt p w (y + 1) st i (getD d i 0)
     byte (no a) b c =
@@ -127,11 +147,12 @@ module _ (p : List ℕ) (w st y : ℕ) (d r : List ℕ) (ws : w ≤ st) (sp : 0 
 
 -- ---- packed rows
 
+-- a plane of no rows is empty
 plane-none : (w : ℕ) (f : ℕ → ℕ → ℕ) → plane w 0 f ≡ []
 plane-none w f =
     ext-getD 0 _ _ (length-plane w 0 f ∙ mul-zero w) (λ i l. absurd (omega (arith, length-plane w 0 f, mul-zero w)))
 
--- one row more
+-- a plane of y rows, and row y after it, is a plane of y + 1 rows
 plane-row : (w : ℕ) (f : ℕ → ℕ → ℕ) (y : ℕ) (r : List ℕ) → 0 < w → length r ≡ w
     → ((x : ℕ) → x < w → getD r x 0 ≡ f x y) → plane w y f ++ r ≡ plane w (y + 1) f
 plane-row w f y r W long is =
@@ -159,7 +180,7 @@ plane-row w f y r W long is =
         ∙ pixel-plane w y f x q X l)
         (eq-or-lt-of-le {n = q} {m = y} (omega arith))
 
--- two neighbouring parts written one after the other
+-- writing p, and then r right after it, is writing both at once
 pub overwritten-more : (at : ℕ) (p r d : List ℕ) → at + length p ≤ length d
     → overwritten (at + length p) r (overwritten at p d) ≡ overwritten at (p ++ r) d
 overwritten-more at p r d fits =
@@ -178,11 +199,11 @@ overwritten-more at p r d fits =
     ∙ ap (λ (k : ℕ). drop k d) total in
     rw (front, back) (append-assoc (take at d) p _ ∙ ap (λ (k : List ℕ). take at d ++ k) (sym (append-assoc p r _)))
 
--- nothing written yet
+-- writing a plane of no rows changes nothing
 pub plane-start : (w : ℕ) (f : ℕ → ℕ → ℕ) (at : ℕ) (d : List ℕ) → overwritten at (plane w 0 f) d ≡ d
 plane-start w f at d = rw (plane-none, add-zero) (take-append-drop at d)
 
--- row y of a plane written after the rows before it
+-- writing row y right after the first y rows of a plane is writing y + 1 rows
 pub plane-more : (w : ℕ) (f : ℕ → ℕ → ℕ) (y at : ℕ) (d r : List ℕ) → 0 < w → at + (y * w + w) ≤ length d → length r ≡ w
     → ((x : ℕ) → x < w → getD r x 0 ≡ f x y)
     → overwritten (at + y * w) r (overwritten at (plane w y f) d) ≡ overwritten at (plane w (y + 1) f) d

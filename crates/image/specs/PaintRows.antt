@@ -1,5 +1,5 @@
--- A loop that paints a destination row by row, through parts that are lent to a call: what it keeps, and one law for each
--- answer that it asks. Assumes nothing.
+-- For a loop that paints a destination row by row, through parts that are lent to a call: its invariant `RowsPainted`,
+-- and one law for each need of its proof. Assumes nothing.
 use Prim.Native.Nat.{ℕ, _+_, _-_, _*_, _≤_, _<_}
 use native.Mathlib.Omega.{arith}
 use mathlib.Core.Path.{_≡_, sym, ap, _∙_}
@@ -19,13 +19,16 @@ pub record RowsPainted (p : List ℕ) (w h st : ℕ) (d l : List ℕ) (y : ℕ) 
   pub is : l ≡ painted p w y st d
 
 module _ (p : List ℕ) (w h st : ℕ) (d : List ℕ) where
+  -- the invariant holds before the first row
   pub rows-start : RowsPainted p w h st d d 0
   rows-start = record { upto = omega arith; is = sym (painted-none p w st d) }
 
   module _ {l : List ℕ} (y : ℕ) (o : RowsPainted p w h st d l y) where
+    -- the destination keeps its length
     pub rows-same : length l ≡ length d
     rows-same = ap length (o .is) ∙ length-painted p w y st d
 
+    -- after the last row all of it is painted
     pub rows-done : h ≤ y → l ≡ painted p w h st d
     rows-done t =
         let u = o .upto in
@@ -33,13 +36,15 @@ module _ (p : List ℕ) (w h st : ℕ) (d : List ℕ) where
         o .is ∙ ap (λ (n : ℕ). painted p w n st d) e
 
     module _ (wide : 0 < w) (ws : w ≤ st) (fits : y * st + w ≤ length d) where
-      -- row y lies in the destination, and the part lent has the width
+      -- row y lies in the destination
       pub row-fits : y * st + w ≤ length l
       row-fits = omega (arith, rows-same)
 
+      -- the part that is lent for it has the width
       pub part-long : length (take (y * st + w - y * st) (drop (y * st) l)) ≡ w
       part-long = lent-row (y * st) w l row-fits
 
+      -- a row r of the picture's pixels, written as row y, carries the invariant on
       pub rows-next :
           (r : List ℕ)
           → length r ≡ w
@@ -54,7 +59,7 @@ module _ (p : List ℕ) (w h st : ℕ) (d : List ℕ) where
             ∙ painted-row p w st y d r ws (omega arith) fits long is;
       }
 
--- row y of a destination with the picture's sides
+-- row y lies in a destination whose sides are the picture's
 pub row-within-as : {len w h : ℕ} {g : Geometry} → Kept len g → g .width ≡ w → g .height ≡ h → (y : ℕ) → y < h
     → y * g .stride + w ≤ len
 row-within-as k a b y t = rw (← a) (row-within k y (rw (← b) at t))

@@ -1,4 +1,4 @@
--- Reading and writing one pixel by number. Definitions only.
+-- What `get` and `set` promise: one pixel is read or written. Definitions only.
 use Prim.Native.Nat.{ℕ, _+_, _*_}
 use mathlib.Core.Path.{_≡_}
 use mathlib.Core.List.{List}
@@ -24,22 +24,22 @@ abbrev pub writtenAnswer : Written → Answer Bare
 writtenAnswer Done = accepted bare
 writtenAnswer (Written·Refused e) = refused (numberOf e)
 
--- the pixel, or the refusal
+-- the answer of `get`: the pixel, or the refusal
 abbrev pub valueIn : Layout → List ℕ → ℕ → ℕ → Answer ℕ
 valueIn (Valid g) d x y = accepted (pixel d (g .stride) x y)
 valueIn (Invalid e) d x y = refused (numberOf e)
 
--- the answer of a write
+-- the answer of `set`: a bare success, or the refusal
 abbrev pub writtenIn : Layout → Answer Bare
 writtenIn (Valid g) = accepted bare
 writtenIn (Invalid e) = refused (numberOf e)
 
--- the bytes after a write: the pixel's byte replaced, or nothing
+-- the bytes after `set`: the pixel's byte is v, or all are as they were where the call is refused
 abbrev pub bytesIn : Layout → List ℕ → ℕ → ℕ → ℕ → List ℕ
 bytesIn (Valid g) d x y v = set d (y * g .stride + x) v
 bytesIn (Invalid e) d x y v = d
 
--- the contract of a write of v at (x, y): the bytes before, the answer and the bytes after
+-- the contract of `set`, which writes v at (x, y)
 pub record Sets (before : List ℕ) (g : Geometry) (x y v : ℕ) (answer : Answer Bare) (after : List ℕ) : Type 0 where
   pub answers : answer ≡ writtenIn (pixelLayout (length before) g x y)
   pub leaves : after ≡ bytesIn (pixelLayout (length before) g x y) before x y v

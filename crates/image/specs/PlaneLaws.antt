@@ -1,8 +1,20 @@
--- A tabulated list holds what it was tabulated from, and a packed picture its pixels. Assumes nothing.
+-- Laws of tabulated lists, of packed pictures and of parts: how long each is, and what it holds at each place. Assumes
+-- nothing.
 use mathlib.Core.Path.{_≡_, refl, sym, ap, ap₂, _∙_}
 use mathlib.Core.List.{List}
 use Prim.Native.Nat.{ℕ, zero, suc, _+_, _*_, _/_, _%_, _≤_, _<_}
-use native.Mathlib.Nat.{le-of-suc-le-suc, not-suc-le-zero, add-zero, zero-add, mod-lt, div-add-mod', div-lt-iff-lt-mul, mul-comm, mul-le-mul-right, suc-mul}
+use native.Mathlib.Nat.{
+  le-of-suc-le-suc,
+  not-suc-le-zero,
+  add-zero,
+  zero-add,
+  mod-lt,
+  div-add-mod',
+  div-lt-iff-lt-mul,
+  mul-comm,
+  mul-le-mul-right,
+  suc-mul,
+}
 use native.Mathlib.Omega.{arith}
 use lib.ListN.{length, getD, take, drop, length-append, length-take, length-drop, List·getD-append}
 use lib.Seq.{ext-getD, length-take-le, getD-append-add, getD-take, getD-drop}
@@ -32,6 +44,7 @@ getD-tabulate f n i h = getD-tabulateFrom f 0 n i h ∙ ap f (zero-add i)
 
 -- ---- packed pictures
 
+-- pixel (x, y) lies in a packed picture
 pub in-plane : (w h x y : ℕ) → x < w → y < h → y * w + x < w * h
 in-plane w h x y X Y = omega (arith, mul-le-mul-right w Y, suc-mul y w, mul-comm w h)
 
@@ -49,6 +62,7 @@ pub getD-plane : (w h : ℕ) (f : ℕ → ℕ → ℕ) (i : ℕ) → i < w * h �
 unfolding plane
 getD-plane w h f i t = getD-tabulate (λ i. f (i % w) (i / w)) (w * h) i t
 
+-- its pixel (x, y) is f x y
 pub pixel-plane : (w h : ℕ) (f : ℕ → ℕ → ℕ) (x y : ℕ) → x < w → y < h → pixel (plane w h f) w x y ≡ f x y
 pixel-plane w h f x y X Y =
     getD-plane w h f (y * w + x) (in-plane w h x y X Y) ∙ ap₂ f (digits-mod y X) (digits-div y X)
@@ -81,23 +95,23 @@ pub pixel-packed : (d : List ℕ) (w h stride x y : ℕ) → x < w → y < h
 unfolding packed
 pixel-packed d w h stride x y X Y = pixel-plane w h (pixel d stride) x y X Y
 
--- w × h numbers that are the pixels of a strided picture are that picture, packed
+-- w × h numbers that are the pixels of a strided picture are the packed picture
 pub packed-is : (d : List ℕ) (w h stride : ℕ) (p : List ℕ) → 0 < w → length p ≡ w * h
     → ((x y : ℕ) → x < w → y < h → pixel p w x y ≡ pixel d stride x y) → packed d w h stride ≡ p
 unfolding packed
 packed-is d w h stride p W l each = sym (is-plane w h (pixel d stride) p W l each)
 
--- a packed picture of w × h numbers, packed, is itself
+-- packing a packed picture changes nothing
 pub packed-again : (p : List ℕ) (w h : ℕ) → 0 < w → length p ≡ w * h → packed p w h w ≡ p
 packed-again p w h W l = packed-is p w h w p W l (λ x y X Y. refl)
 
--- two strided pictures with the same pixels are one when packed, whatever their strides, padding and tails
+-- two strided pictures with the same pixels are the same when packed, whatever their strides, padding and tails
 pub same-pixels : (w h : ℕ) (a b : List ℕ) (sa sb : ℕ) → 0 < w
     → ((x y : ℕ) → x < w → y < h → pixel a sa x y ≡ pixel b sb x y) → packed a w h sa ≡ packed b w h sb
 unfolding packed
 same-pixels w h a b sa sb W each = plane-same w h (pixel a sa) (pixel b sb) W each
 
--- ---- parts of a list, and a part replaced
+-- ---- parts of a list, and a list that is written over a part
 
 module _ (at n : ℕ) (d : List ℕ) (fits : at + n ≤ length d) where
   pub length-part : length (part at n d) ≡ n
@@ -113,11 +127,11 @@ module _ (at : ℕ) (p d : List ℕ) (fits : at + length p ≤ length d) where
   pub length-overwritten : length (overwritten at p d) ≡ length d
   length-overwritten = simp (length-append, length-take, length-drop) (omega arith)
 
-  -- before `at`, from `at` on, and after the numbers of p
+  -- a number before `at` is as it was
   pub overwritten-before : (i : ℕ) → i < at → getD (overwritten at p d) i 0 ≡ getD d i 0
   overwritten-before i t = List·getD-append (take at d) _ 0 i (omega (arith, front)) ∙ getD-take at d i 0 t
 
-  -- a part that lies before what was written is as it was
+  -- and so is a part that ends there
   pub part-before : (a n : ℕ) → a + n ≤ at → part a n (overwritten at p d) ≡ part a n d
   part-before a n t =
       let long = length-overwritten in
@@ -128,12 +142,14 @@ module _ (at : ℕ) (p d : List ℕ) (fits : at + length p ≤ length d) where
       ∙ overwritten-before (a + i) (omega arith)
       ∙ sym (getD-part a n d (omega arith) i (omega arith)))
 
+  -- from `at` on stand the numbers of p
   pub overwritten-within : (i : ℕ) → i < length p → getD (overwritten at p d) (at + i) 0 ≡ getD p i 0
   overwritten-within i t =
       ap (λ (k : ℕ). getD (overwritten at p d) (k + i) 0) (sym front)
       ∙ getD-append-add (take at d) _ i 0
       ∙ List·getD-append p _ 0 i t
 
+  -- a number after them is as it was
   pub overwritten-after : (i : ℕ) → getD (overwritten at p d) (at + length p + i) 0 ≡ getD d (at + length p + i) 0
   overwritten-after i =
       ap (λ (k : ℕ). getD (overwritten at p d) k 0) (omega (arith, front))
@@ -141,7 +157,7 @@ module _ (at : ℕ) (p d : List ℕ) (fits : at + length p ≤ length d) where
       ∙ getD-append-add p _ i 0
       ∙ getD-drop (at + length p) d i 0
 
--- what was written is there
+-- the part that was written is p
 pub part-overwritten : (at : ℕ) (p d : List ℕ) → at + length p ≤ length d → part at (length p) (overwritten at p d) ≡ p
 part-overwritten at p d fits =
     let l = length-overwritten at p d fits in

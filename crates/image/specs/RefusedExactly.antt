@@ -1,5 +1,6 @@
--- When a call is refused: with n exactly when n is the number of the first condition of its list that fits; accepted exactly when none
--- fits. One proof over the list of conditions, then a law for each call of this crate. Assumes nothing.
+-- When a call is refused: with n exactly when n is the number of the first condition of its list that fits; it is
+-- accepted exactly when none fits. One proof over the list of conditions, then a law for each call of this crate.
+-- Assumes nothing.
 use Prim.Native.Nat.{ℕ, _+_, _*_}
 use native.Mathlib.Omega.{arith}
 use mathlib.Core.Path.{_≡_, refl, sym, ap, _∙_}
@@ -15,7 +16,16 @@ use Rattle.image.specs.declared.LumaError.the-variants.{OutsidePicture}
 use Rattle.image.specs.declared.Layout.{Layout}
 use Rattle.image.specs.declared.Layout.the-variants.{Valid, Invalid}
 use Rattle.image.specs.Answers.{Answer, accepted, refused, Bare, bare, Condition, numbered, answerTo}
-use Rattle.image.specs.Layout.{layoutConditions, layoutBy, layoutOf, askedFor, pixelLayout, rowLayout, numberOf, layoutAnswer}
+use Rattle.image.specs.Layout.{
+  layoutConditions,
+  layoutBy,
+  layoutOf,
+  askedFor,
+  pixelLayout,
+  rowLayout,
+  numberOf,
+  layoutAnswer,
+}
 use Rattle.image.specs.Plane.{pixel}
 use Rattle.image.specs.Row.{rowIn, rowAt, Hands}
 use Rattle.image.specs.Pixel.{valueIn, writtenIn, bytesIn, Sets}
@@ -31,13 +41,15 @@ pub data NoneFits : List (Condition ℕ) → Type 0 where
   none : NoneFits []
   next : {c : Condition ℕ} {cs : List (Condition ℕ)} → c .fits ≡ false → NoneFits cs → NoneFits (c ∷ cs)
 
--- an answer by a list of conditions: refused with a number exactly when it is that of the first that fits, else accepted with its values
+-- an answer by a list of conditions: refused with a number exactly when it is that of the first that fits, and accepted
+-- with its values exactly when none fits
 pub record Exactly {A : Type 0} (cs : List (Condition ℕ)) (values : A) (answer : Answer A) : Type 0 where
   pub refused-exactly : (n : ℕ) → (answer ≡ refused n) ↔ FirstFits cs n
   pub accepted-exactly : (answer ≡ accepted values) ↔ NoneFits cs
 
 -- ---- the one proof
 module _ {A : Type 0} (values : A) where
+  -- no answer is both accepted and refused
   pub differ : {n : ℕ} → accepted values ≡ refused n → ⊥
   differ p = let z : _≡_ {A = ℕ} 0 1 = cc in omega arith
 
@@ -71,6 +83,7 @@ module _ {A : Type 0} (values : A) where
       go true e p r = absurd (differ (sym p))
       go false e p r = next e (r p)
 
+  -- an answer that `answerTo` gives is refused and accepted exactly as its list says
   pub exactly : (cs : List (Condition ℕ)) {answer : Answer A} → answer ≡ answerTo cs values → Exactly cs values answer
   exactly cs is = record {
     refused-exactly = λ n. (λ p. refused-fits cs (sym is ∙ p), λ f. is ∙ fits-refused f);
@@ -83,16 +96,17 @@ module _ {A : Type 0} (values : A) where
 abbrev pub layoutNumbers : ℕ → Geometry → List (Condition ℕ)
 layoutNumbers len g = numbered numberOf (layoutConditions len g)
 
--- a place outside the picture is 9
+-- the condition of a place: outside the picture it is 9
 abbrev pub outside : Bool → List (Condition ℕ)
 outside inside = record { fits = not inside; refusal = numberOf OutsidePicture } ∷ []
 
--- w × h bytes from `at` that do not lie in a workspace of room bytes are 8
+-- the condition of a copy: w × h bytes from `at` on that do not lie in a workspace of `room` bytes are 8
 abbrev pub tooShort : Geometry → ℕ → ℕ → List (Condition ℕ)
 tooShort g at room = record { fits = ltb room (at + g .width * g .height); refusal = 8 } ∷ []
 
--- an answer by a layout that passes its refusal on goes by the layout's conditions, and then by those of the valid one
-module _ {A : Type 0} (g : Geometry) (by : Layout → Answer A) (passes : (e : LumaError) → by (Invalid e) ≡ refused (numberOf e))
+-- an answer that passes a layout's refusal on goes by the layout's conditions, and then by `last`, those of a valid one
+module _ {A : Type 0} (g : Geometry)
+    (by : Layout → Answer A) (passes : (e : LumaError) → by (Invalid e) ≡ refused (numberOf e))
     (last : List (Condition ℕ)) (v : A) (valid : by (Valid g) ≡ answerTo last v) where
   through : (cs : List (Condition LumaError)) → by (layoutBy g cs) ≡ answerTo (numbered numberOf cs ++ last) v
   unfolding answerTo
@@ -100,7 +114,8 @@ module _ {A : Type 0} (g : Geometry) (by : Layout → Answer A) (passes : (e : L
   through (c ∷ cs) = step (c .fits) (through cs)
     where
       step : (f : Bool) → by (layoutBy g cs) ≡ answerTo (numbered numberOf cs ++ last) v
-          → by (cond f (Invalid (c .refusal)) (layoutBy g cs)) ≡ cond f (refused (numberOf (c .refusal))) (answerTo (numbered numberOf cs ++ last) v)
+          → by (cond f (Invalid (c .refusal)) (layoutBy g cs))
+          ≡ cond f (refused (numberOf (c .refusal))) (answerTo (numbered numberOf cs ++ last) v)
       step true p = passes (c .refusal)
       step false p = p
 
@@ -113,7 +128,7 @@ pub layout-exactly : (len : ℕ) (g : Geometry) → Exactly (layoutNumbers len g
 unfolding answerTo
 layout-exactly len g = exactly g (layoutNumbers len g ++ []) (layout-through g layoutAnswer (λ e. refl) [] g refl len)
 
--- a place asked for by number: `check_pixel` and `check_row`
+-- `check_pixel` and `check_row`, which ask for a place
 asked-exactly : (len : ℕ) (g : Geometry) (inside : Bool)
     → Exactly (layoutNumbers len g ++ outside inside) g (layoutAnswer (askedFor (layoutOf len g) inside))
 unfolding answerTo
@@ -126,14 +141,15 @@ asked-exactly len g inside =
     asked false = refl
 
 pub check-pixel-exactly : (len : ℕ) (g : Geometry) (x y : ℕ)
-    → Exactly (layoutNumbers len g ++ outside (ltb x (g .width) && ltb y (g .height))) g (layoutAnswer (pixelLayout len g x y))
+    → Exactly (layoutNumbers len g ++ outside (ltb x (g .width) && ltb y (g .height))) g
+    (layoutAnswer (pixelLayout len g x y))
 check-pixel-exactly len g x y = asked-exactly len g (ltb x (g .width) && ltb y (g .height))
 
 pub check-row-exactly : (len : ℕ) (g : Geometry) (y : ℕ)
     → Exactly (layoutNumbers len g ++ outside (ltb y (g .height))) g (layoutAnswer (rowLayout len g y))
 check-row-exactly len g y = asked-exactly len g (ltb y (g .height))
 
--- `row` and `row_mut`: where `check_row` refuses, an empty part at the slice's start is handed out
+-- `row` and `row_mut` hand out an empty part at the slice's start where `check_row` refuses
 pub row-refused : {d r : RefT (List ℕ)} {g : Geometry} {y n : ℕ} → Hands d g y r
     → layoutAnswer (rowLayout (length (now d)) g y) ≡ refused n → (now r ≡ []) × (ptr r ≡ ptr d)
 row-refused {d} {r} {g} {y} h p = let e = go (rowLayout (length (now d)) g y) p in (h .bytes ∙ e .0, h .place ∙ e .1)
@@ -147,11 +163,14 @@ module _ (d : List ℕ) (g : Geometry) (x y : ℕ) where
   abbrev inside : Bool
   inside = ltb x (g .width) && ltb y (g .height)
 
-  pub get-exactly : Exactly (layoutNumbers (length d) g ++ outside inside) (pixel d (g .stride) x y) (valueIn (pixelLayout (length d) g x y) d x y)
+  pub get-exactly : Exactly (layoutNumbers (length d) g ++ outside inside) (pixel d (g .stride) x y)
+      (valueIn (pixelLayout (length d) g x y) d x y)
   unfolding answerTo
   get-exactly =
       let v = pixel d (g .stride) x y in
-      exactly v (layoutNumbers (length d) g ++ outside inside) (layout-through g (λ l. valueIn (askedFor l inside) d x y) (λ e. refl) (outside inside) v (asked inside) (length d))
+      let by : Layout → Answer ℕ = λ l. valueIn (askedFor l inside) d x y in
+      exactly v (layoutNumbers (length d) g ++ outside inside)
+      (layout-through g by (λ e. refl) (outside inside) v (asked inside) (length d))
     where
       asked : (b : Bool) → valueIn (askedFor (Valid g) b) d x y ≡ answerTo (outside b) (pixel d (g .stride) x y)
       asked true = refl
@@ -161,14 +180,15 @@ module _ (d : List ℕ) (g : Geometry) (x y : ℕ) where
     pub set-exactly : Exactly (layoutNumbers (length d) g ++ outside inside) bare answer
     unfolding answerTo
     set-exactly =
+        let by : Layout → Answer Bare = λ l. writtenIn (askedFor l inside) in
         exactly bare (layoutNumbers (length d) g ++ outside inside)
-        (sets .answers ∙ layout-through g (λ l. writtenIn (askedFor l inside)) (λ e. refl) (outside inside) bare (asked inside) (length d))
+        (sets .answers ∙ layout-through g by (λ e. refl) (outside inside) bare (asked inside) (length d))
       where
         asked : (b : Bool) → writtenIn (askedFor (Valid g) b) ≡ answerTo (outside b) bare
         asked true = refl
         asked false = refl
 
-    -- refused, it changes no byte
+    -- `set` changes no byte where it is refused
     pub set-keeps : {n : ℕ} → answer ≡ refused n → after ≡ d
     set-keeps p = sets .leaves ∙ go (pixelLayout (length d) g x y) (sym (sets .answers) ∙ p)
       where
@@ -182,16 +202,20 @@ copied-through : (len : ℕ) (g : Geometry) (at room : ℕ)
 unfolding answerTo
 copied-through len g at room = layout-through g (λ l. copiedIn l at room) (λ e. refl) (tooShort g at room) bare refl len
 
-module _ {src : List ℕ} {g : Geometry} {at : ℕ} {before : List ℕ} {answer : Answer Bare} {after : List ℕ} (packs : Packs src g at before answer after) where
+module _ {src : List ℕ} {g : Geometry} {at : ℕ} {before : List ℕ} {answer : Answer Bare} {after : List ℕ}
+    (packs : Packs src g at before answer after) where
   pub pack-exactly : Exactly (layoutNumbers (length src) g ++ tooShort g at (length before)) bare answer
   pack-exactly = exactly bare _ (packs .answers ∙ copied-through (length src) g at (length before))
 
+  -- `pack` changes no number where it is refused
   pub pack-keeps : {n : ℕ} → answer ≡ refused n → after ≡ before
   pack-keeps p = packs .leaves ∙ ap (λ (a : Answer Bare). packedIn a g src at before) (sym (packs .answers) ∙ p)
 
-module _ {ws : List ℕ} {at : ℕ} {before : List ℕ} {g : Geometry} {answer : Answer Bare} {after : List ℕ} (unpacks : Unpacks ws at before g answer after) where
+module _ {ws : List ℕ} {at : ℕ} {before : List ℕ} {g : Geometry} {answer : Answer Bare} {after : List ℕ}
+    (unpacks : Unpacks ws at before g answer after) where
   pub unpack-exactly : Exactly (layoutNumbers (length before) g ++ tooShort g at (length ws)) bare answer
   unpack-exactly = exactly bare _ (unpacks .answers ∙ copied-through (length before) g at (length ws))
 
+  -- `unpack` changes no byte where it is refused
   pub unpack-keeps : {n : ℕ} → answer ≡ refused n → after ≡ before
   unpack-keeps p = unpacks .leaves ∙ ap (λ (a : Answer Bare). unpackedIn a g ws at before) (sym (unpacks .answers) ∙ p)

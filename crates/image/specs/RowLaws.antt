@@ -1,4 +1,4 @@
--- What a row that was handed out gives: its length, its pixels, and which bytes of the slice it is. Assumes nothing.
+-- Laws of a row that was handed out: its length, its pixels, and which bytes of the slice it is. Assumes nothing.
 use Prim.Native.Nat.{ℕ, _+_, _*_, _<_}
 use native.Mathlib.Omega.{arith}
 use mathlib.Core.Path.{_≡_, sym, ap, _∙_}
@@ -14,7 +14,7 @@ use Rattle.image.specs.PlaneLaws.{length-part, getD-part}
 use Rattle.image.specs.Views.{pixel-picture}
 use Rattle.image.specs.Row.{rowIn, rowAt, Hands}
 
--- row y of a valid layout, by its bytes
+-- row y of a valid layout, where r are its bytes
 module _ (d : List ℕ) (g : Geometry) (k : Kept (length d) g) (y : ℕ) (t : y < g .height)
     {r : List ℕ} (e : r ≡ rowIn (rowLayout (length d) g y) d y) where
   row-is : r ≡ part (y * g .stride) (g .width) d
@@ -27,7 +27,7 @@ module _ (d : List ℕ) (g : Geometry) (k : Kept (length d) g) (y : ℕ) (t : y 
   row-pixel x u =
       ap (λ (z : List ℕ). getD z x 0) row-is ∙ getD-part (y * g .stride) (g .width) d (row-within k y t) x u
 
-  -- and as the packed picture has it
+  -- each of its bytes is a pixel of the packed picture
   pub row-picture : (x : ℕ) → x < g .width → getD r x 0 ≡ pixel (picture d g) (g .width) x y
   row-picture x u = row-pixel x u ∙ sym (pixel-picture d g x y u t)
 

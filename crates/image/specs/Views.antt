@@ -1,4 +1,4 @@
--- The picture of a geometry in a slice, and a destination of a geometry that was painted. Assumes nothing.
+-- Laws of `picture` and `paintedOn`: how long each is, and what it holds at each place. Assumes nothing.
 use Prim.Native.Nat.{ℕ, _*_, _<_}
 use native.Mathlib.Omega.{arith}
 use mathlib.Core.Path.{_≡_, sym, ap, ap₂, _∙_}
@@ -11,7 +11,7 @@ use Rattle.image.specs.Plane.{pixel, packed, painted, paintedAt, picture
 use Rattle.image.specs.PlaneLaws.{length-packed, pixel-packed, packed-is, packed-again}
 use Rattle.image.specs.PaintLaws.{length-painted, painted-byte, painted-pixel}
 
--- the picture of a geometry: how many numbers, and each pixel
+-- the picture of a geometry: its length, and each pixel
 module _ (d : List ℕ) (g : Geometry) where
   pub length-picture : length (picture d g) ≡ g .width * g .height
   length-picture = length-packed d (g .width) (g .height) (g .stride)
@@ -20,7 +20,7 @@ module _ (d : List ℕ) (g : Geometry) where
       → pixel (picture d g) (g .width) x y ≡ pixel d (g .stride) x y
   pixel-picture = pixel-packed d (g .width) (g .height) (g .stride)
 
-  -- of a packed picture it is all of it
+  -- the picture of a slice without padding is the slice
   pub picture-again : 0 < g .width → g .stride ≡ g .width → length d ≡ g .width * g .height → picture d g ≡ d
   picture-again W tight n =
       ap (packed d (g .width) (g .height)) tight ∙ packed-again d (g .width) (g .height) W n
@@ -34,7 +34,7 @@ module _ (d : List ℕ) (g : Geometry) (p : List ℕ) where
       → getD (paintedOn d g p) i 0 ≡ paintedAt p (g .width) (g .height) (g .stride) i (getD d i 0)
   paintedOn-byte = painted-byte p (g .width) (g .height) (g .stride) d
 
-  -- pixel (x, y) of a valid layout holds the picture's
+  -- pixel (x, y) of a destination with a valid layout is the picture's
   pub paintedOn-pixel : Kept (length d) g → (x y : ℕ) → x < g .width → y < g .height
       → pixel (paintedOn d g p) (g .stride) x y ≡ pixel p (g .width) x y
   paintedOn-pixel k x y X Y =
@@ -44,7 +44,7 @@ module _ (d : List ℕ) (g : Geometry) (p : List ℕ) where
   pub picture-paintedOn : Kept (length d) g → length p ≡ g .width * g .height → picture (paintedOn d g p) g ≡ p
   picture-paintedOn k n = packed-is (paintedOn d g p) _ _ _ p (k .wide) n (λ x y X Y. sym (paintedOn-pixel k x y X Y))
 
--- a destination that has the sides of the picture, which another geometry gave
+-- painting with sides w and h that are the geometry's is `paintedOn`
 pub painted-sides : (d : List ℕ) (g : Geometry) (p : List ℕ) {w h : ℕ} → g .width ≡ w → g .height ≡ h
     → painted p w h (g .stride) d ≡ paintedOn d g p
 painted-sides d g p a b = sym (ap₂ (λ (w h : ℕ). painted p w h (g .stride) d) a b)

@@ -1,5 +1,5 @@
 // Grey pictures. A picture is a lent byte slice and a geometry by value: pixel (x, y) is the byte at y * stride + x,
-// and the last row needs no padding. No call here has a condition: a picture that its slice does not hold is refused.
+// and the last row needs no padding. No public call has a condition: a picture that its slice does not hold is refused.
 ghost use mathlib.Core.Path.{_≡_};
 ghost use Prim.Native.Nat.{_+_, _*_, _≤_};
 ghost use lib.ListN.{length};
@@ -13,12 +13,14 @@ ghost use Rattle.image.specs.Plane.{picture, paintedOn, part, overwritte
 // The largest side of a picture.
 pub const MAX_SIDE: usize = 4096;
 
+// Where a picture lies in its slice: `height` rows of `width` bytes, and row y starts at y * stride.
 pub struct Geometry {
     pub width: usize,
     pub height: usize,
     pub stride: usize,
 }
 
+// Why a picture, or a place in it, is refused.
 pub enum LumaError {
     EmptyDimensions,
     StrideTooSmall,
@@ -27,28 +29,33 @@ pub enum LumaError {
     OutsidePicture,
 }
 
+// A layout that was checked: the geometry, or why it is refused.
 pub enum Layout {
     Valid(Geometry),
     Invalid(LumaError),
 }
 
+// What `get` answers: the pixel, or why it is refused.
 pub enum Pixel {
     Value(u8),
     Refused(LumaError),
 }
 
+// What `set` answers: that the pixel is written, or why it is refused.
 pub enum Written {
     Done,
     Refused(LumaError),
 }
 
+// What `pack` and `unpack` answer: that the rows are copied, or why they are not. WorkspaceTooSmall says that the
+// packed plane does not lie in the workspace.
 pub enum Copied {
     Done,
     Refused(LumaError),
     WorkspaceTooSmall,
 }
 
-// Whether a slice of `len` bytes holds the picture. The length is tested by a quotient, so that nothing wraps.
+// Checks that a slice of `len` bytes holds the picture. It tests the length by a quotient, so that nothing wraps.
 pub fn validate_layout(len: usize, geometry: Geometry) -> Layout
     ensures { λ r. ⌜ r ≡ layoutOf len geometry ⌝ }
 {
@@ -79,7 +86,8 @@ pub fn validate_layout(len: usize, geometry: Geometry) -> Layout
     Layout::Valid(geometry)
 }
 
-// The refusal of a layout that is invalid.
+// Gives the refusal of an invalid layout. Being total, it gives EmptyDimensions for a valid one, on which no caller
+// relies.
 pub fn refusal(layout: Layout) -> LumaError
     ensures { λ r. ⌜ r ≡ refusalOf layout ⌝ }
 {
@@ -89,7 +97,7 @@ pub fn refusal(layout: Layout) -> LumaError
     }
 }
 
-// The number of a refusal.
+// Gives the number that document 01 has for a refusal.
 pub fn number(error: LumaError) -> u32
     ensures { λ r. ⌜ r ≡ numberOf error ⌝ }
 {
@@ -102,7 +110,7 @@ pub fn number(error: LumaError) -> u32
     }
 }
 
-// The number of a layout's refusal, and 0 of a valid one.
+// Gives the number of a layout's refusal, and 0 for a valid layout.
 pub fn layout_number(layout: Layout) -> u32
     ensures { λ r. ⌜ r ≡ answerNumber (layoutAnswer layout) ⌝ }
 {
@@ -112,7 +120,7 @@ pub fn layout_number(layout: Layout) -> u32
     }
 }
 
-// The layout of a slice of `len` bytes that is asked for pixel (x, y).
+// Checks the layout in a slice of `len` bytes, and then that pixel (x, y) lies in the picture.
 pub fn check_pixel(len: usize, geometry: Geometry, x: usize, y: usize) -> Layout
     ensures { λ r. ⌜ r ≡ pixelLayout len geometry x y ⌝ }
 {
@@ -129,7 +137,7 @@ pub fn check_pixel(len: usize, geometry: Geometry, x: usize, y: usize) -> Layout
     layout
 }
 
-// The layout of a slice of `len` bytes that is asked for row y.
+// Checks the layout in a slice of `len` bytes, and then that row y lies in the picture.
 pub fn check_row(len: usize, geometry: Geometry, y: usize) -> Layout
     ensures { λ r. ⌜ r ≡ rowLayout len geometry y ⌝ }
 {
@@ -143,9 +151,10 @@ pub fn check_row(len: usize, geometry: Geometry, y: usize) -> Layout
     layout
 }
 
-// Pixel (x, y).
+// Reads pixel (x, y).
 pub fn get(data: &[u8], geometry: Geometry, x: usize, y: usize) -> Pixel
-    ensures { λ r. ⌜ pixelAnswer r ≡ valueIn (pixelLayout (length (now («data» .entry))) geometry x y) (now («data» .entry)) x y ⌝ }
+    ensures { λ r. ⌜ pixelAnswer r
+        ≡ valueIn (pixelLayout (length (now («data» .entry))) geometry x y) (now («data» .entry)) x y ⌝ }
 {
     let layout = check_pixel(data.len(), geometry, x, y);
     let Layout::Valid(g) = layout else {
@@ -168,7 +177,7 @@ pub fn set(data: &mut [u8], geometry: Geometry, x: usize, y: usize, value: u8) -
     Written::Done
 }
 
-// Row y as the caller's own bytes; an empty part where `check_row` refuses.
+// Hands out row y, the caller's own bytes where they stand; an empty part where `check_row` refuses.
 pub fn row(data: &[u8], geometry: Geometry, y: usize) -> &[u8]
     ensures { λ r. ⌜ Hands («data» .entry) geometry y r ⌝ }
 {
@@ -180,7 +189,7 @@ pub fn row(data: &[u8], geometry: Geometry, y: usize) -> &[u8]
     &data[from..to]
 }
 
-// Row y of a destination, to write to; an empty part where `check_row` refuses.
+// Hands out row y of a destination to be written; an empty part where `check_row` refuses.
 pub fn row_mut(data: &mut [u8], geometry: Geometry, y: usize) -> &mut [u8]
     ensures { λ r. ⌜ Hands («data» .entry) geometry y r ⌝ }
 {
@@ -192,7 +201,7 @@ pub fn row_mut(data: &mut [u8], geometry: Geometry, y: usize) -> &mut [u8]
     &mut data[start..end]
 }
 
-// The bytes of one row, from as many others.
+// Copies the bytes of a row over as many others.
 fn copy_row(src: &[u8], dst: &mut [u8])
     requires { ⌜ length (now src) ≡ length (now dst) ⌝ }
     ensures { λ _. ⌜ now (dst .exit) ≡ now (src .entry) ⌝ }
@@ -204,10 +213,12 @@ fn copy_row(src: &[u8], dst: &mut [u8])
     }
 }
 
-// The rows of a picture, one after another from `at` on.
+// Copies the rows of a picture into the workspace, one after another from `at` on.
 fn pack_rows(src: &[u8], geometry: Geometry, workspace: &mut [u8], at: usize)
-    requires { ⌜ Kept (length (now src)) geometry × (at + geometry .width * geometry .height ≤ length (now workspace)) ⌝ }
-    ensures { λ _. ⌜ now (workspace .exit) ≡ overwritten at (picture (now (src .entry)) geometry) (now (workspace .entry)) ⌝ }
+    requires { ⌜ Kept (length (now src)) geometry
+        × (at + geometry .width * geometry .height ≤ length (now workspace)) ⌝ }
+    ensures { λ _. ⌜ now (workspace .exit)
+        ≡ overwritten at (picture (now (src .entry)) geometry) (now (workspace .entry)) ⌝ }
 {
     let width = geometry.width;
     let height = geometry.height;
@@ -220,11 +231,13 @@ fn pack_rows(src: &[u8], geometry: Geometry, workspace: &mut [u8], at: usize)
     }
 }
 
-// A packed plane of a workspace, painted into the rows of a picture.
+// Copies the packed plane that starts at `at` of the workspace into the rows of a picture.
 fn unpack_rows(workspace: &[u8], at: usize, dst: &mut [u8], geometry: Geometry)
-    requires { ⌜ Kept (length (now dst)) geometry × (at + geometry .width * geometry .height ≤ length (now workspace)) ⌝ }
+    requires { ⌜ Kept (length (now dst)) geometry
+        × (at + geometry .width * geometry .height ≤ length (now workspace)) ⌝ }
     ensures { λ _. ⌜ now (dst .exit)
-        ≡ paintedOn (now (dst .entry)) geometry (part at (geometry .width * geometry .height) (now (workspace .entry))) ⌝ }
+        ≡ paintedOn (now (dst .entry)) geometry
+        (part at (geometry .width * geometry .height) (now (workspace .entry))) ⌝ }
 {
     let width = geometry.width;
     let height = geometry.height;
@@ -240,9 +253,10 @@ fn unpack_rows(workspace: &[u8], at: usize, dst: &mut [u8], geometry: Geometry)
     }
 }
 
-// The rows of a strided picture into a packed plane of the workspace, at an offset.
+// Copies the rows of a strided picture into a packed plane of the workspace, which starts at `at`.
 pub fn pack(src: &[u8], geometry: Geometry, workspace: &mut [u8], at: usize) -> Copied
-    ensures { λ r. ⌜ Packs (now (src .entry)) geometry at (now (workspace .entry)) (copiedAnswer r) (now (workspace .exit)) ⌝ }
+    ensures { λ r. ⌜ Packs (now (src .entry)) geometry at (now (workspace .entry))
+        (copiedAnswer r) (now (workspace .exit)) ⌝ }
 {
     let layout = validate_layout(src.len(), geometry);
     let Layout::Valid(g) = layout else {
@@ -260,9 +274,10 @@ pub fn pack(src: &[u8], geometry: Geometry, workspace: &mut [u8], at: usize) -> 
     Copied::Done
 }
 
-// A packed plane of the workspace, at an offset, out to the rows of a strided picture.
+// Copies a packed plane of the workspace, which starts at `at`, into the rows of a strided picture.
 pub fn unpack(workspace: &[u8], at: usize, dst: &mut [u8], geometry: Geometry) -> Copied
-    ensures { λ r. ⌜ Unpacks (now (workspace .entry)) at (now (dst .entry)) geometry (copiedAnswer r) (now (dst .exit)) ⌝ }
+    ensures { λ r. ⌜ Unpacks (now (workspace .entry)) at (now (dst .entry)) geometry
+        (copiedAnswer r) (now (dst .exit)) ⌝ }
 {
     let layout = validate_layout(dst.len(), geometry);
     let Layout::Valid(g) = layout else {
@@ -280,7 +295,7 @@ pub fn unpack(workspace: &[u8], at: usize, dst: &mut [u8], geometry: Geometry) -
     Copied::Done
 }
 
-// The number of a copy's refusal, and 0 of none.
+// Gives the number of a copy's refusal, and 0 for a copy that was made.
 pub fn copied_number(copied: Copied) -> u32
     ensures { λ r. ⌜ r ≡ answerNumber (copiedAnswer copied) ⌝ }
 {

@@ -15,5 +15,5 @@ pub(crate) fn high(i: usize, r: usize, n: usize) -> usize
     requires { ⌜ i < n ⌝ }
     ensures { λ m. ⌜ m ≡ high r n i ⌝ }
 {
-    if n - 1 - i < r { n - 1 } else { i + r }
+    if r < n - i { i + r } else { n - 1 }
 }

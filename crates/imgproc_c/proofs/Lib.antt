@@ -1,4 +1,4 @@
--- The laws that the proofs of this crate share.
+-- Holds the laws that the proofs of this crate share.
 pub mod Numbers
 pub mod Exporting
 pub mod GridNumbers

@@ -1,4 +1,4 @@
--- From the answers of the picture crate to the exports' numbers. Assumes nothing.
+-- Derives the contracts of the picture's exports from the contracts of its calls. Assumes nothing.
 use Prim.Native.Nat.{ℕ}
 use native.Mathlib.Nat.{mul-one}
 use native.Mathlib.Omega.{arith}
@@ -21,12 +21,12 @@ use Rattle.image.specs.Row.{rowIn}
 use Rattle.image.specs.Copy.{copiedIn, packedIn, Packs, Unpacks}
 use Rattle.imgproc_c.specs.Picture.{geometry, SetsNumber, rowRoom, rowOut, RowCopied, PacksNumber, UnpacksNumber}
 
--- a pixel written, by its answer
+-- the number of a write's answer makes the export's contract
 pub set-number : (before : List ℕ) (g : Geometry) (x y v : ℕ) {answer : Answer Bare} {number : ℕ} {after : List ℕ}
     → Sets before g x y v answer after → number ≡ answerNumber answer → SetsNumber before g x y v number after
 set-number before g x y v s q = record { answers = q ∙ ap answerNumber (s .answers); sets = record { answers = refl; leaves = s .leaves } }
 
--- a row is a picture of one row
+-- a copy of a row is refused as the row is, and else packs the row as a picture of one row
 module _ (d : List ℕ) (g : Geometry) (y : ℕ) (before : List ℕ) {l : Layout} (is : l ≡ rowLayout (length d) g y) where
   pub no-row : {e : LumaError} {n : ℕ} → l ≡ Invalid e → n ≡ answerNumber (layoutAnswer l) → RowCopied d g y before n before
   no-row {e} i q =
@@ -69,7 +69,8 @@ module _ (d : List ℕ) (g : Geometry) (y : ℕ) (before : List ℕ) {l : Layout
     whole (accepted v) = ap (λ (p : List ℕ). overwritten 0 p before) (packed-again row (g .width) 1 (kept .wide) (long ∙ sym (mul-one (g .width))))
     whole (refused n) = refl
 
-    pub row-copied : {c : Answer Bare} {n : ℕ} {after : List ℕ} → Packs row (geometry (g .width) 1 (g .width)) 0 before c after → n ≡ answerNumber c → RowCopied d g y before n after
+    pub row-copied : {c : Answer Bare} {n : ℕ} {after : List ℕ}
+        → Packs row (geometry (g .width) 1 (g .width)) 0 before c after → n ≡ answerNumber c → RowCopied d g y before n after
     row-copied {c} p q = record {
       answers = q ∙ ap answerNumber (p .answers ∙ room);
       leaves =
@@ -79,8 +80,11 @@ module _ (d : List ℕ) (g : Geometry) (y : ℕ) (before : List ℕ) {l : Layout
           ∙ ap (λ (b : List ℕ). rowOut (rowRoom (rowLayout (length d) g y) (length before)) b before) own;
     }
 
-pub packed-number : (src : List ℕ) (g : Geometry) (at : ℕ) (before : List ℕ) {c : Answer Bare} {n : ℕ} {after : List ℕ} → Packs src g at before c after → n ≡ answerNumber c → PacksNumber src g at before n after
+-- the numbers of the two copies' answers make the exports' contracts
+pub packed-number : (src : List ℕ) (g : Geometry) (at : ℕ) (before : List ℕ) {c : Answer Bare} {n : ℕ} {after : List ℕ}
+    → Packs src g at before c after → n ≡ answerNumber c → PacksNumber src g at before n after
 packed-number src g at before p q = record { answers = q ∙ ap answerNumber (p .answers); packs = record { answers = refl; leaves = p .leaves } }
 
-pub unpacked-number : (ws : List ℕ) (at : ℕ) (before : List ℕ) (g : Geometry) {c : Answer Bare} {n : ℕ} {after : List ℕ} → Unpacks ws at before g c after → n ≡ answerNumber c → UnpacksNumber ws at before g n after
+pub unpacked-number : (ws : List ℕ) (at : ℕ) (before : List ℕ) (g : Geometry) {c : Answer Bare} {n : ℕ} {after : List ℕ}
+    → Unpacks ws at before g c after → n ≡ answerNumber c → UnpacksNumber ws at before g n after
 unpacked-number ws at before g p q = record { answers = q ∙ ap answerNumber (p .answers); unpacks = record { answers = refl; leaves = p .leaves } }

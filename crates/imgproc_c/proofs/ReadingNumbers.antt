@@ -1,20 +1,17 @@
--- A reading by the method of a number is the reading by its settings. Assumes nothing.
+-- Derives the contract of the reading's export from the reading's. Assumes nothing.
 use Prim.Native.Nat.{ℕ}
 use mathlib.Core.Path.{_≡_, refl, sym, ap, subst, _∙_}
-use mathlib.Core.List.{List}
 use mir.Syntax.{w16}
 use mir.Val.{SFits, toZ, ofZ}
 use mir.ValLaws.{toZ-ofZ}
 use lib.IntN.{ℤ}
 use lib.ListN.{length}
 use lib.Ieee.{Float}
-use Rattle.image.specs.declared.Geometry.{Geometry}
 use Rattle.image.specs.Answers.{Answer}
 use Rattle.imgproc.specs.declared.ImgProcError.the-variants.{InvalidKernel}
 use Rattle.imgproc.specs.declared.Check.{Check}
-use Rattle.imgproc.specs.declared.illumination.BackgroundDivideConfig.{BackgroundDivideConfig}
 use Rattle.imgproc.specs.declared.grid.config.TileThresholdMethod.{TileThresholdMethod}
-use Rattle.imgproc.specs.declared.threshold.SauvolaConfig.{SauvolaConfig}
+use Rattle.imgproc.specs.declared.reading.config.ReadingConfig.{ReadingConfig}
 use Rattle.imgproc.specs.GridCalls.{gridSettings}
 use Rattle.imgproc.specs.Reading.{
   ReadingLent,
@@ -29,61 +26,67 @@ use Rattle.imgproc.specs.Reading.{
 use Rattle.imgproc.specs.Refusals.{first, _then_, refusedIf, answerBy, pairConditions, badKernel, divisionSettings, sauvolaSettings}
 use Rattle.imgproc.specs.RefusalLaws.{then-same}
 use Rattle.imgproc_c.specs.Exports.{Tells}
-use Rattle.imgproc_c.specs.Grid.{methodOf, methodConditions, settings}
+use Rattle.imgproc_c.specs.Grid.{methodOf, methodConditions}
 use Rattle.imgproc_c.specs.Reading.{readingFrom, numberSettings, numberConditions, ReadsNumber}
 use Rattle.imgproc_c.proofs.Exporting.{tells-as}
-use Rattle.imgproc_c.proofs.GridNumbers.{method-same}
+use Rattle.imgproc_c.proofs.GridNumbers.{method-same, settingsWith}
 
-module _ (src : List ℕ) (source : Geometry) (dst : List ℕ) (target : Geometry) (d : BackgroundDivideConfig) (m tw th radius : ℕ) (offset : ℤ) (floor : ℕ)
-    (v : SauvolaConfig) (bytes words : List ℕ) where
-  -- what was lent, with a method and an offset
-  abbrev lentWith : ℤ → TileThresholdMethod → ReadingLent
-  lentWith z t = record {
-    src = src;
-    source = source;
-    dst = dst;
-    target = target;
-    settings = readingFrom d m (settings tw th radius z floor t) v;
-    bytes = bytes;
-    words = words;
-  }
+-- what was lent, with another offset and method
+abbrev lentWith : ReadingLent → ℤ → TileThresholdMethod → ReadingLent
+lentWith lent z m =
+    let s = lent .settings in
+    record {
+      src = lent .src;
+      source = lent .source;
+      dst = lent .dst;
+      target = lent .target;
+      settings = readingFrom (s .division) (s .«opening_kernel») (settingsWith (s .grid) z m) (s .sauvola);
+      bytes = lent .bytes;
+      words = lent .words;
+    }
 
-  -- the method is refused where the grid's settings would be
-  settings-same : (n : ℕ) (k range : Float) → let s = lentWith offset (methodOf n k range) .settings in first (readingSettings s) ≡ first (numberSettings n s)
-  unfolding readingSettings numberSettings
-  settings-same n k range =
-      let s = lentWith offset (methodOf n k range) .settings in
-      let kernel = refusedIf (badKernel m) InvalidKernel in
-      let last = sauvolaSettings v in
-      let mine = gridSettings (s .grid) in
-      let theirs = methodConditions n then mine in
-      then-same (divisionSettings d) (divisionSettings d) (kernel then mine then last) (kernel then theirs then last) refl
-      (then-same kernel kernel (mine then last) (theirs then last) refl
-      (then-same mine theirs last last (method-same tw th radius offset floor k range n) refl))
+-- the method is refused where the grid's settings would be
+settings-same : (s : ReadingConfig) (n : ℕ) (k range : Float)
+    → s .grid .method ≡ methodOf n k range → first (readingSettings s) ≡ first (numberSettings n s)
+unfolding readingSettings numberSettings
+settings-same s n k range is =
+    let division = divisionSettings (s .division) in
+    let kernel = refusedIf (badKernel (s .«opening_kernel»)) InvalidKernel in
+    let last = sauvolaSettings (s .sauvola) in
+    let mine = gridSettings (s .grid) in
+    let theirs = methodConditions n then mine in
+    then-same division division (kernel then mine then last) (kernel then theirs then last) refl
+    (then-same kernel kernel (mine then last) (theirs then last) refl
+    (then-same mine theirs last last (method-same (s .grid) n k range is) refl))
 
-  pub reads :
-      {used : TileThresholdMethod} {told : Answer ReadingNumbers} {left : ReadingLeft} {held held′ : ReadingNumbers} {number : ℕ} (n : ℕ) (k range : Float)
-      → SFits w16 offset
-      → used ≡ methodOf n k range
-      → Reads (lentWith (toZ w16 (ofZ w16 offset)) used) told left
-      → Tells told held number held′
-      → ReadsNumber n (lentWith offset (methodOf n k range)) held number left held′
-  reads {used} {told} {left} {held} {held′} {number} n k range fits is b t =
-      let lent = lentWith offset (methodOf n k range) in
-      let own : Reads lent told left =
-      subst (λ (z : TileThresholdMethod). Reads (lentWith offset z) told left) is (subst (λ (z : ℤ). Reads (lentWith z used) told left) (toZ-ofZ w16 offset fits) b) in
-      let pair = pairConditions (length src) source (length dst) target in
-      let room = readingRoom source (lent .settings) (length bytes) (length words) in
-      let mine = readingSettings (lent .settings) in
-      let theirs = numberSettings n (lent .settings) in
-      let same : first (readingConditions lent) ≡ first (numberConditions n lent) =
-      then-same pair pair (mine then room) (theirs then room) refl (then-same mine theirs room room (settings-same n k range) refl) in
-      record {
-        reads = record {
-          answers = refl;
-          leaves = rw (sym same) (own .leaves);
-          bytes-left = rw (sym same) (own .bytes-left);
-          words-left = rw (sym same) (own .words-left);
-        };
-        tells = tells-as (own .answers ∙ ap (λ (c : Check). answerBy c (numbersFrom lent)) same) t;
-      }
+-- a reading by the method of a number, whose offset went through its 16 bits, makes the export's contract
+pub reads :
+    {lent : ReadingLent} {used : TileThresholdMethod} {told : Answer ReadingNumbers} {left : ReadingLeft} {held held′ : ReadingNumbers} {number : ℕ}
+    (n : ℕ) (k range : Float)
+    → SFits w16 (lent .settings .grid .«threshold_offset»)
+    → lent .settings .grid .method ≡ methodOf n k range
+    → used ≡ methodOf n k range
+    → Reads (lentWith lent (toZ w16 (ofZ w16 (lent .settings .grid .«threshold_offset»))) used) told left
+    → Tells told held number held′
+    → ReadsNumber n lent held number left held′
+reads {lent} {used} {told} {left} n k range fits is used-is b t =
+    let s = lent .settings in
+    let same-offset = toZ-ofZ w16 (s .grid .«threshold_offset») fits in
+    let by-offset = subst (λ (z : ℤ). Reads (lentWith lent z used) told left) same-offset b in
+    let own : Reads lent told left =
+    subst (λ (m : TileThresholdMethod). Reads (lentWith lent (s .grid .«threshold_offset») m) told left) (used-is ∙ sym is) by-offset in
+    let pair = pairConditions (length (lent .src)) (lent .source) (length (lent .dst)) (lent .target) in
+    let room = readingRoom (lent .source) s (length (lent .bytes)) (length (lent .words)) in
+    let mine = readingSettings s in
+    let theirs = numberSettings n s in
+    let same : first (readingConditions lent) ≡ first (numberConditions n lent) =
+    then-same pair pair (mine then room) (theirs then room) refl (then-same mine theirs room room (settings-same s n k range is) refl) in
+    record {
+      reads = record {
+        answers = refl;
+        leaves = rw (sym same) (own .leaves);
+        bytes-left = rw (sym same) (own .bytes-left);
+        words-left = rw (sym same) (own .words-left);
+      };
+      tells = tells-as (own .answers ∙ ap (λ (c : Check). answerBy c (numbersFrom lent)) same) t;
+    }

@@ -1,4 +1,4 @@
--- How an export tells an answer: its number is returned, and its values go to lent places. Definitions only.
+-- Says how an export tells an answer: it returns the number, and stores the values in lent places. Definitions only.
 use Prim.Native.Nat.{ℕ}
 use mathlib.Core.Path.{_≡_}
 use mathlib.Core.Bool.{Bool}
@@ -6,8 +6,8 @@ use Rattle.image.specs.Answers.{Answer, accepted, refused, answerNumber, values
 use Rattle.imgproc.specs.Fold.{bit}
 use Rattle.imgproc.specs.Calls.{Operator, Loan, Left, answerOf, Serves}
 
--- the number of an answer is returned, 0 where the call is accepted; its values go to a lent place, which keeps what it held where the call
--- is refused
+-- an export returns the number of an answer, 0 where the call is accepted, and stores the values in a lent place; a
+-- refused call leaves that place as it was
 pub record Tells {A : Type 0} (told : Answer A) (held : A) (number : ℕ) (held′ : A) : Type 0 where
   pub answers : number ≡ answerNumber told
   pub hands-out : held′ ≡ valuesOut told held
@@ -17,7 +17,9 @@ abbrev pub asByte : Answer Bool → Answer ℕ
 asByte (accepted b) = accepted (bit b)
 asByte (refused n) = refused n
 
--- the export of a call from picture to picture: it leaves what the call leaves, and tells its answer
-pub record Exports {S A : Type 0} (operator : Operator S A) (lent : Loan S) (held : A) (number : ℕ) (left : Left) (held′ : A) : Type 0 where
+-- the export of a call from picture to picture leaves what the call leaves, and tells its answer
+pub record Exports {S A : Type 0}
+    (operator : Operator S A) (lent : Loan S) (held : A) (number : ℕ) (left : Left) (held′ : A)
+    : Type 0 where
   pub serves : Serves operator lent (answerOf operator lent) left
   pub tells : Tells (answerOf operator lent) held number held′

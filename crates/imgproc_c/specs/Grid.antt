@@ -1,4 +1,5 @@
--- The export of the grid's build: settings from flat numbers, with the method as a number. Definitions only.
+-- Says what the export of the grid's build promises: it takes settings as flat numbers, the method as one.
+-- Definitions only.
 use Prim.Native.Nat.{ℕ, zero, suc}
 use lib.Dec.{ltb}
 use lib.IntN.{ℤ}
@@ -10,17 +11,26 @@ use Rattle.imgproc.specs.declared.grid.config.TileThresholdMethod.the-variants.
 use Rattle.imgproc.specs.declared.grid.config.TileThresholdConfig.{TileThresholdConfig}
 use Rattle.imgproc.specs.declared.grid.queries.TileThresholdGrid.{TileThresholdGrid}
 use Rattle.imgproc.specs.Grid.{nought}
-use Rattle.imgproc.specs.GridCalls.{gridSettings, BuildLent, BuildLeft, TileCounts, tilesFrom, buildConditionsBy, BuildsBy}
+use Rattle.imgproc.specs.GridCalls.{
+  gridSettings,
+  BuildLent,
+  BuildLeft,
+  TileCounts,
+  tilesFrom,
+  buildConditionsBy,
+  BuildsBy,
+}
 use Rattle.imgproc.specs.Refusals.{Conditions, first, _then_, refusedIf, answerBy}
 use Rattle.imgproc_c.specs.Exports.{Tells}
 
--- the method of a number: 0 is Midrange, 1 Sauvola; every other one is refused, so what stands for it here is never used
+-- the method of a number: 0 is Midrange, 1 is Sauvola; every other number is refused, so nothing uses the method that
+-- stands for it here
 abbrev pub methodOf : ℕ → Float → Float → TileThresholdMethod
 methodOf zero k range = Midrange
 methodOf (suc zero) k range = Sauvola (record { k = k; «dynamic_range» = range })
 methodOf (suc (suc n)) k range = Sauvola (record { k = nought; «dynamic_range» = nought })
 
--- a method but 0 and 1 is a setting out of range
+-- any method but 0 and 1 is a setting out of range
 unfoldable pub methodConditions : ℕ → Conditions
 methodConditions method = refusedIf (ltb 1 method) InvalidConfiguration
 
@@ -40,7 +50,7 @@ abbrev pub grid : ℕ → ℕ → ℕ → ℕ → ℕ → ℕ → TileThresholdG
 grid w h tw th x y =
     record { width = w; height = h; «tile_width» = tw; «tile_height» = th; «tiles_x» = x; «tiles_y» = y }
 
--- the layout; the method, before the settings; the settings; the room
+-- a build checks the layout; the method, before the settings; the settings; the room
 abbrev pub numberConditions : ℕ → BuildLent → Conditions
 numberConditions method lent = buildConditionsBy (methodConditions method then gridSettings (lent .settings)) lent
 
@@ -48,7 +58,9 @@ numberConditions method lent = buildConditionsBy (methodConditions method then g
 abbrev pub builtFrom : ℕ → BuildLent → Answer TileCounts
 builtFrom method lent = answerBy (first (numberConditions method lent)) (tilesFrom lent)
 
--- the export: it leaves what a build by those conditions leaves, and tells its answer
-pub record BuildsNumber (method : ℕ) (lent : BuildLent) (held : TileCounts) (number : ℕ) (left : BuildLeft) (held′ : TileCounts) : Type 0 where
+-- the export leaves what a build by those conditions leaves, and tells its answer
+pub record BuildsNumber
+    (method : ℕ) (lent : BuildLent) (held : TileCounts) (number : ℕ) (left : BuildLeft) (held′ : TileCounts)
+    : Type 0 where
   pub builds : BuildsBy (numberConditions method lent) lent (builtFrom method lent) left
   pub tells : Tells (builtFrom method lent) held number held′

@@ -1,4 +1,4 @@
--- What the exports promise, in the words of the libraries below.
+-- Says what the exports promise, by the contracts of the libraries below.
 pub mod Picture
 pub mod Exports
 pub mod Operators

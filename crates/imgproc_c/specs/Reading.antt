@@ -1,4 +1,5 @@
--- The export of the reading: settings from flat numbers, with the grid's method as a number. Definitions only.
+-- Says what the export of the reading promises: it takes settings as flat numbers, the grid's method as one.
+-- Definitions only.
 use Prim.Native.Nat.{ℕ}
 use Rattle.image.specs.Answers.{Answer}
 use Rattle.imgproc.specs.declared.ImgProcError.the-variants.{InvalidKernel}
@@ -7,8 +8,24 @@ use Rattle.imgproc.specs.declared.grid.config.TileThresholdConfig.{TileThreshol
 use Rattle.imgproc.specs.declared.threshold.SauvolaConfig.{SauvolaConfig}
 use Rattle.imgproc.specs.declared.reading.config.ReadingConfig.{ReadingConfig}
 use Rattle.imgproc.specs.GridCalls.{gridSettings}
-use Rattle.imgproc.specs.Reading.{ReadingLent, ReadingLeft, ReadingNumbers, numbersFrom, readingConditionsBy, ReadsBy}
-use Rattle.imgproc.specs.Refusals.{Conditions, first, _then_, refusedIf, answerBy, badKernel, divisionSettings, sauvolaSettings}
+use Rattle.imgproc.specs.Reading.{
+  ReadingLent,
+  ReadingLeft,
+  ReadingNumbers,
+  numbersFrom,
+  readingConditionsBy,
+  ReadsBy,
+}
+use Rattle.imgproc.specs.Refusals.{
+  Conditions,
+  first,
+  _then_,
+  refusedIf,
+  answerBy,
+  badKernel,
+  divisionSettings,
+  sauvolaSettings,
+}
 use Rattle.imgproc_c.specs.Exports.{Tells}
 use Rattle.imgproc_c.specs.Grid.{methodConditions}
 
@@ -17,7 +34,7 @@ abbrev pub readingFrom : BackgroundDivideConfig → ℕ → TileThresholdConfig 
 readingFrom division kernel grid sauvola =
     record { division = division; «opening_kernel» = kernel; grid = grid; sauvola = sauvola }
 
--- the division's settings; m; the method, before the grid's settings; the threshold's
+-- a reading checks the division's settings; m; the method, before the grid's settings; the threshold's
 unfoldable pub numberSettings : ℕ → ReadingConfig → Conditions
 numberSettings method s =
     divisionSettings (s .division) then
@@ -25,7 +42,7 @@ numberSettings method s =
     (methodConditions method then gridSettings (s .grid)) then
     sauvolaSettings (s .sauvola)
 
--- the layouts; 5; those settings; the workspaces
+-- it checks the layouts; 5; those settings; the workspaces
 abbrev pub numberConditions : ℕ → ReadingLent → Conditions
 numberConditions method lent = readingConditionsBy (numberSettings method (lent .settings)) lent
 
@@ -33,7 +50,9 @@ numberConditions method lent = readingConditionsBy (numberSettings method (lent 
 abbrev pub readFrom : ℕ → ReadingLent → Answer ReadingNumbers
 readFrom method lent = answerBy (first (numberConditions method lent)) (numbersFrom lent)
 
--- the export: it leaves what a reading by those conditions leaves, and tells its answer
-pub record ReadsNumber (method : ℕ) (lent : ReadingLent) (held : ReadingNumbers) (number : ℕ) (left : ReadingLeft) (held′ : ReadingNumbers) : Type 0 where
+-- the export leaves what a reading by those conditions leaves, and tells its answer
+pub record ReadsNumber
+    (method : ℕ) (lent : ReadingLent) (held : ReadingNumbers) (number : ℕ) (left : ReadingLeft) (held′ : ReadingNumbers)
+    : Type 0 where
   pub reads : ReadsBy (numberConditions method lent) lent (readFrom method lent) left
   pub tells : Tells (readFrom method lent) held number held′

@@ -1,4 +1,5 @@
-// An answer taken apart: its number, and the lent numbers that its values go to. A refusal leaves them.
+// Takes answers apart: each function returns the number of the answer, and stores its values in lent numbers. A refusal
+// leaves these as they were.
 use imgproc::grid::Built;
 use imgproc::grid::TileSkip;
 use imgproc::grid::TileThreshold;
@@ -10,7 +11,7 @@ ghost use Rattle.imgproc.specs.GridCalls.{builtAnswer, tileThresholdAnswer, til
 ghost use Rattle.imgproc.specs.Reading.{readAnswer};
 ghost use Rattle.imgproc_c.specs.Exports.{Tells, asByte};
 
-// The count goes to the lent number.
+// Stores the count in the lent number.
 pub(crate) fn counted(answer: Compared, comparisons: &mut u64) -> u32
     ensures { λ r. ⌜ Tells (comparedAnswer answer) (now (comparisons .entry)) r (now (comparisons .exit)) ⌝ }
 {
@@ -23,7 +24,7 @@ pub(crate) fn counted(answer: Compared, comparisons: &mut u64) -> u32
     }
 }
 
-// The tile counts go to the lent numbers.
+// Stores the tile counts in the lent numbers.
 pub(crate) fn built(answer: Built, tiles_x: &mut usize, tiles_y: &mut usize) -> u32
     ensures { λ r.
         ⌜
@@ -43,7 +44,7 @@ pub(crate) fn built(answer: Built, tiles_x: &mut usize, tiles_y: &mut usize) -> 
     }
 }
 
-// The threshold goes to the lent number.
+// Stores the threshold in the lent number.
 pub(crate) fn asked_threshold(answer: TileThreshold, value: &mut u8) -> u32
     ensures { λ r. ⌜ Tells (tileThresholdAnswer answer) (now (value .entry)) r (now (value .exit)) ⌝ }
 {
@@ -56,7 +57,7 @@ pub(crate) fn asked_threshold(answer: TileThreshold, value: &mut u8) -> u32
     }
 }
 
-// The skip goes to the lent number, as 0 or 1.
+// Stores 1 in the lent number for a skip, and else 0.
 pub(crate) fn asked_skip(answer: TileSkip, value: &mut u8) -> u32
     ensures { λ r. ⌜ Tells (asByte (tileSkipAnswer answer)) (now (value .entry)) r (now (value .exit)) ⌝ }
 {
@@ -73,7 +74,7 @@ pub(crate) fn asked_skip(answer: TileSkip, value: &mut u8) -> u32
     }
 }
 
-// The four counts go to the lent numbers.
+// Stores the four counts in the lent numbers.
 pub(crate) fn read(
     answer: Read,
     dark: &mut u64,
@@ -84,9 +85,19 @@ pub(crate) fn read(
     ensures { λ r.
         ⌜
         Tells (readAnswer answer)
-        (record { dark = now (dark .entry); light = now (light .entry); skipped = now (skipped .entry); comparisons = now (comparisons .entry) })
+        (record {
+          dark = now (dark .entry);
+          light = now (light .entry);
+          skipped = now (skipped .entry);
+          comparisons = now (comparisons .entry);
+        })
         r
-        (record { dark = now (dark .exit); light = now (light .exit); skipped = now (skipped .exit); comparisons = now (comparisons .exit) })
+        (record {
+          dark = now (dark .exit);
+          light = now (light .exit);
+          skipped = now (skipped .exit);
+          comparisons = now (comparisons .exit);
+        })
         ⌝ }
 {
     match answer {

@@ -1,4 +1,4 @@
-// The tile grid, and queries to it.
+// Exports the build of the tile grid, and the queries to it.
 use crate::answers::asked_skip;
 use crate::answers::asked_threshold;
 use crate::answers::built;
@@ -13,7 +13,7 @@ ghost use Rattle.imgproc_c.specs.Picture.{geometry};
 ghost use Rattle.imgproc_c.specs.Exports.{Tells, asByte};
 ghost use Rattle.imgproc_c.specs.Grid.{methodOf, settings, grid, BuildsNumber};
 
-// The method of a number. Any but 0 and 1 gets a range that is refused.
+// Gives the method of a number. Any number but 0 and 1 gets a range of 0, which the build refuses.
 pub(crate) fn method_of(method: u32, k: f64, dynamic_range: f64) -> TileThresholdMethod
     ensures { λ r. ⌜ r ≡ methodOf method k «dynamic_range» ⌝ }
 {
@@ -55,7 +55,13 @@ pub extern "C" fn imgproc_tile_grid_build(
         (record {
           src = now (src .entry);
           source = geometry width height stride;
-          settings = settings «tile_width» «tile_height» «neighborhood_radius» «threshold_offset» «contrast_floor» (methodOf method k «dynamic_range»);
+          settings = settings
+              «tile_width»
+              «tile_height»
+              «neighborhood_radius»
+              «threshold_offset»
+              «contrast_floor»
+              (methodOf method k «dynamic_range»);
           workspace = now (workspace .entry);
           thresholds = now (thresholds .entry);
           skips = now (skips .entry);
@@ -96,7 +102,18 @@ pub extern "C" fn imgproc_threshold_at(
     y: usize,
     value: &mut u8,
 ) -> u32
-    ensures { λ r. ⌜ Tells (thresholdAsked (grid width height «tile_width» «tile_height» «tiles_x» «tiles_y») (now (thresholds .entry)) x y) (now (value .entry)) r (now (value .exit)) ⌝ }
+    ensures { λ r.
+        ⌜
+        Tells
+        (thresholdAsked
+        (grid width height «tile_width» «tile_height» «tiles_x» «tiles_y»)
+        (now (thresholds .entry))
+        x
+        y)
+        (now (value .entry))
+        r
+        (now (value .exit))
+        ⌝ }
 {
     let grid = TileThresholdGrid {
         width,
@@ -122,7 +139,18 @@ pub extern "C" fn imgproc_is_skip(
     y: usize,
     value: &mut u8,
 ) -> u32
-    ensures { λ r. ⌜ Tells (asByte (skipAsked (grid width height «tile_width» «tile_height» «tiles_x» «tiles_y») (now (skips .entry)) x y)) (now (value .entry)) r (now (value .exit)) ⌝ }
+    ensures { λ r.
+        ⌜
+        Tells
+        (asByte (skipAsked
+        (grid width height «tile_width» «tile_height» «tiles_x» «tiles_y»)
+        (now (skips .entry))
+        x
+        y))
+        (now (value .entry))
+        r
+        (now (value .exit))
+        ⌝ }
 {
     let grid = TileThresholdGrid {
         width,
@@ -147,7 +175,17 @@ pub extern "C" fn imgproc_row_all_skip(
     y: usize,
     value: &mut u8,
 ) -> u32
-    ensures { λ r. ⌜ Tells (asByte (rowSkipAsked (grid width height «tile_width» «tile_height» «tiles_x» «tiles_y») (now (skips .entry)) y)) (now (value .entry)) r (now (value .exit)) ⌝ }
+    ensures { λ r.
+        ⌜
+        Tells
+        (asByte (rowSkipAsked
+        (grid width height «tile_width» «tile_height» «tiles_x» «tiles_y»)
+        (now (skips .entry))
+        y))
+        (now (value .entry))
+        r
+        (now (value .exit))
+        ⌝ }
 {
     let grid = TileThresholdGrid {
         width,

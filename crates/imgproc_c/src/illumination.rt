@@ -1,4 +1,4 @@
-// Division by the background.
+// Exports the division by the background.
 use crate::answers::counted;
 use image::Geometry;
 use imgproc::illumination::BackgroundDivideConfig;

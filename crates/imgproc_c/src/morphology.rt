@@ -1,4 +1,4 @@
-// Erosion, dilation, opening and closing.
+// Exports erosion, dilation, opening and closing.
 use crate::answers::counted;
 use image::Geometry;
 ghost use Rattle.imgproc.specs.MorphologyCalls.{erosion, dilation, opening, closing};

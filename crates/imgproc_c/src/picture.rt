@@ -1,4 +1,4 @@
-// Layout, pixels, rows and packed copies.
+// Exports the layout check, pixels, rows and packed copies.
 use image::Geometry;
 use image::Layout;
 use image::Pixel;
@@ -41,7 +41,11 @@ pub extern "C" fn imgproc_get(
     ensures { λ r.
         ⌜
         Tells
-        (valueIn (pixelLayout (length (now («data» .entry))) (geometry width height stride) x y) (now («data» .entry)) x y)
+        (valueIn
+        (pixelLayout (length (now («data» .entry))) (geometry width height stride) x y)
+        (now («data» .entry))
+        x
+        y)
         (now (value .entry))
         r
         (now (value .exit))
@@ -72,7 +76,17 @@ pub extern "C" fn imgproc_set(
     y: usize,
     value: u8,
 ) -> u32
-    ensures { λ r. ⌜ SetsNumber (now («data» .entry)) (geometry width height stride) x y value r (now («data» .exit)) ⌝ }
+    ensures { λ r.
+        ⌜
+        SetsNumber
+        (now («data» .entry))
+        (geometry width height stride)
+        x
+        y
+        value
+        r
+        (now («data» .exit))
+        ⌝ }
 {
     let geometry = Geometry {
         width,
@@ -104,7 +118,7 @@ pub extern "C" fn imgproc_check_row(
     image::layout_number(image::check_row(len, geometry, y))
 }
 
-// Row y into the first bytes of `out`, which is refused with 8 where it is shorter than the row.
+// Copies row y into the first bytes of `out`. An `out` that is shorter than the row is refused with 8.
 #[no_mangle]
 pub extern "C" fn imgproc_row(
     data: &[u8],
@@ -114,7 +128,16 @@ pub extern "C" fn imgproc_row(
     y: usize,
     out: &mut [u8],
 ) -> u32
-    ensures { λ r. ⌜ RowCopied (now («data» .entry)) (geometry width height stride) y (now (out .entry)) r (now (out .exit)) ⌝ }
+    ensures { λ r.
+        ⌜
+        RowCopied
+        (now («data» .entry))
+        (geometry width height stride)
+        y
+        (now (out .entry))
+        r
+        (now (out .exit))
+        ⌝ }
 {
     let geometry = Geometry {
         width,
@@ -142,7 +165,16 @@ pub extern "C" fn imgproc_pack(
     workspace: &mut [u8],
     at: usize,
 ) -> u32
-    ensures { λ r. ⌜ PacksNumber (now (src .entry)) (geometry width height stride) at (now (workspace .entry)) r (now (workspace .exit)) ⌝ }
+    ensures { λ r.
+        ⌜
+        PacksNumber
+        (now (src .entry))
+        (geometry width height stride)
+        at
+        (now (workspace .entry))
+        r
+        (now (workspace .exit))
+        ⌝ }
 {
     let geometry = Geometry {
         width,
@@ -161,7 +193,16 @@ pub extern "C" fn imgproc_unpack(
     height: usize,
     stride: usize,
 ) -> u32
-    ensures { λ r. ⌜ UnpacksNumber (now (workspace .entry)) at (now (dst .entry)) (geometry width height stride) r (now (dst .exit)) ⌝ }
+    ensures { λ r.
+        ⌜
+        UnpacksNumber
+        (now (workspace .entry))
+        at
+        (now (dst .entry))
+        (geometry width height stride)
+        r
+        (now (dst .exit))
+        ⌝ }
 {
     let geometry = Geometry {
         width,

@@ -1,4 +1,4 @@
-// The reading.
+// Exports the reading.
 use crate::answers::read;
 use crate::grid::method_of;
 use image::Geometry;
@@ -56,15 +56,31 @@ pub extern "C" fn imgproc_reading(
           settings = readingFrom
               (divisionFrom «structuring_element» «target_luma» «denominator_floor»)
               «opening_kernel»
-              (settings «tile_width» «tile_height» «neighborhood_radius» «threshold_offset» «contrast_floor» (methodOf method k «dynamic_range»))
+              (settings
+              «tile_width»
+              «tile_height»
+              «neighborhood_radius»
+              «threshold_offset»
+              «contrast_floor»
+              (methodOf method k «dynamic_range»))
               (sauvolaFrom radius «k_milli» «sauvola_dynamic_range» «dark_value» «light_value»);
           bytes = now (bytes .entry);
           words = now (words .entry);
         })
-        (record { dark = now (dark .entry); light = now (light .entry); skipped = now (skipped .entry); comparisons = now (comparisons .entry) })
+        (record {
+          dark = now (dark .entry);
+          light = now (light .entry);
+          skipped = now (skipped .entry);
+          comparisons = now (comparisons .entry);
+        })
         r
         (record { dst = now (dst .exit); bytes = now (bytes .exit); words = now (words .exit) })
-        (record { dark = now (dark .exit); light = now (light .exit); skipped = now (skipped .exit); comparisons = now (comparisons .exit) })
+        (record {
+          dark = now (dark .exit);
+          light = now (light .exit);
+          skipped = now (skipped .exit);
+          comparisons = now (comparisons .exit);
+        })
         ⌝ }
 {
     let source = Geometry {

@@ -1,4 +1,4 @@
-// The square root of a double.
+// Exports the square root of a double.
 ghost use mathlib.Core.Path.{_≡_};
 ghost use Rattle.imgproc.specs.Root.{rootOf};
 

@@ -1,4 +1,4 @@
-// Sauvola's threshold.
+// Exports Sauvola's threshold.
 use image::Geometry;
 use imgproc::threshold::SauvolaConfig;
 ghost use Rattle.imgproc_c.specs.Picture.{geometry};

@@ -1,7 +1,3 @@
--- The laws that the proofs of this crate share.
-pub mod Bytes
-pub mod Sides
-pub mod Texts
-pub mod Headers
+-- The laws that several proofs of this crate cite. What one proof alone needs stands beside it.
 pub mod Places
 pub mod Lines

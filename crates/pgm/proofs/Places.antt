@@ -1,4 +1,4 @@
--- Bytes that are written one after another: each text starts where the one before it ended. Assumes nothing.
+-- Laws of texts that are written one after another: each starts where the one before it ended. Assumes nothing.
 use Prim.Native.Nat.{ℕ, _+_, _≤_, _<_}
 use native.Mathlib.Numerals.{add-one}
 use native.Mathlib.Omega.{arith}
@@ -13,15 +13,15 @@ module _ (at : ℕ) (p d : List ℕ) (fits : at + length p ≤ length d) where
   front : length (take at d ++ p) ≡ at + length p
   front = length-append (take at d) p ∙ ap (λ (n : ℕ). n + length p) (length-take-le at d (omega arith))
 
-  -- the same with the text on the left
+  -- the buffer as two parts, of which the first ends with the text
   regrouped : overwritten at p d ≡ (take at d ++ p) ++ drop (at + length p) d
   regrouped = sym (append-assoc (take at d) p (drop (at + length p) d))
 
-  -- the length stays
+  -- the buffer keeps its length
   pub length-overwritten : length (overwritten at p d) ≡ length d
   length-overwritten = simp (length-append, length-take, length-drop) (omega arith)
 
-  -- up to the text's end, and after it
+  -- the bytes up to the text's end, and those after it
   take-overwritten : take (at + length p) (overwritten at p d) ≡ take at d ++ p
   take-overwritten = ap (take (at + length p)) regrouped ∙ take-at (take at d ++ p) (drop (at + length p) d) (at + length p) front
 
@@ -31,8 +31,9 @@ module _ (at : ℕ) (p d : List ℕ) (fits : at + length p ≤ length d) where
       ∙ ap (drop n) (ap (drop (at + length p)) regrouped ∙ drop-at (take at d ++ p) (drop (at + length p) d) (at + length p) front)
       ∙ drop-drop n (at + length p) d
 
--- a text, and one after it, is both texts at once
-overwritten-join : (at : ℕ) (p q d : List ℕ) → at + length p + length q ≤ length d → overwritten (at + length p) q (overwritten at p d) ≡ overwritten at (p ++ q) d
+-- writing p, and then q right after it, is writing both at once
+overwritten-join : (at : ℕ) (p q d : List ℕ) → at + length p + length q ≤ length d
+    → overwritten (at + length p) q (overwritten at p d) ≡ overwritten at (p ++ q) d
 overwritten-join at p q d fits =
     let n : at + length p + length q ≡ at + length (p ++ q) = omega (arith, length-append p q) in
     ap₂ (λ (a b : List ℕ). a ++ (q ++ b)) (take-overwritten at p d (omega arith)) (drop-overwritten at p d (omega arith) (length q))
@@ -40,16 +41,16 @@ overwritten-join at p q d fits =
     ∙ ap (λ (a : List ℕ). take at d ++ a) (sym (append-assoc p q (drop (at + length p + length q) d)))
     ∙ ap (λ (k : ℕ). take at d ++ ((p ++ q) ++ drop k d)) n
 
--- one byte
+-- storing one byte writes a text of one
 pub puts-byte : (at v : ℕ) (d : List ℕ) → at < length d → Puts (v ∷ []) at d (at + 1) (set d at v)
 puts-byte at v d s = record { answers = refl; leaves = set-split d at v s ∙ ap (λ (k : ℕ). take at d ++ (v ∷ drop k d)) (sym (add-one at)) }
 
 module _ {p : List ℕ} {at : ℕ} {d : List ℕ} {m : ℕ} {e : List ℕ} (first : Puts p at d m e) where
-  -- what was written has the buffer's length
+  -- the buffer keeps its length
   pub puts-length : at + length p ≤ length d → length e ≡ length d
   puts-length s = ap length (first .leaves) ∙ length-overwritten at p d s
 
-  -- one text after another
+  -- a text that is written right after the first makes one text of both
   pub puts-join : (q : List ℕ) (r : ℕ) (f : List ℕ) → Puts q m e r f → at + length p + length q ≤ length d → Puts (p ++ q) at d r f
   puts-join q r f second s =
       record {
@@ -57,7 +58,7 @@ module _ {p : List ℕ} {at : ℕ} {d : List ℕ} {m : ℕ} {e : List ℕ} (firs
         leaves = second .leaves ∙ ap₂ (λ (k : ℕ) (l : List ℕ). overwritten k q l) (first .answers) (first .leaves) ∙ overwritten-join at p q d s;
       }
 
-  -- a text and a byte
+  -- and so does one byte
   pub puts-then : (v : ℕ) → at + length p + 1 ≤ length d → Puts (p ++ (v ∷ [])) at d (m + 1) (set e m v)
   puts-then v s =
       puts-join (v ∷ []) (m + 1) (set e m v)

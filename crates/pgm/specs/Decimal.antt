@@ -8,8 +8,8 @@ use lib.Dec.{ltb}
 abbrev pub digit : ℕ → ℕ
 digit d = 48 + d
 
--- the digits of n, where `small` says whether n is below 10: one digit, or the digits of n / 10 and then n % 10. `most` bounds how
--- many follow the first
+-- the digits of n, where `small` says whether n is below 10: one digit, or the digits of n / 10 and then n % 10. `most`
+-- bounds how many follow the first, so that the definition ends
 unfoldable pub digitsOf : (most : ℕ) (small : Bool) → ℕ → List ℕ
 digitsOf zero small n = digit n ∷ []
 digitsOf (suc most) true n = digit n ∷ []

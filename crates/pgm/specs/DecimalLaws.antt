@@ -1,4 +1,5 @@
--- What makes a decimal text right: its digits by cases, its value, no leading zero, and how long it is. Assumes nothing.
+-- What makes a decimal text right: its digits by cases, its value, that it has no leading zero, and how long it is.
+-- Assumes nothing.
 use Prim.Native.Nat.{ℕ, zero, suc, _+_, _-_, _*_, _/_, _%_, _^_, _≤_, _<_}
 use native.Mathlib.Nat.{pow-suc}
 use native.Mathlib.Omega.{arith}
@@ -17,7 +18,7 @@ use Rattle.pgm.specs.Decimal.{digit, digitsOf, decimal}
 abbrev within : ℕ → ℕ → List ℕ
 within f n = digitsOf f (ltb n 10) n
 
--- below 10 there is one digit; from 10 on the last follows those of n / 10
+-- a number below 10 has one digit; from 10 on the last digit follows those of n / 10
 one-digit : (f n : ℕ) → n < 10 → within f n ≡ digit n ∷ []
 unfolding digitsOf
 one-digit zero n h = refl
@@ -27,7 +28,7 @@ more-digits : (f n : ℕ) → 10 ≤ n → within (suc f) n ≡ within f (n / 10
 unfolding digitsOf
 more-digits f n h = rw (le-ltb n 10 h)
 
--- below 10 or not
+-- a number is below 10, or is not
 pub small-or : (n : ℕ) → (n < 10) ⊎ (10 ≤ n)
 small-or n = go (ltb n 10) refl
   where
@@ -35,17 +36,20 @@ small-or n = go (ltb n 10) refl
     go true e = inl (ltb-true n 10 e)
     go false e = inr (ltb-false n 10 e)
 
--- any bound from n on gives the same digits
+-- any bound that is not below n gives the same digits
 enough : (f g n : ℕ) → n ≤ f → n ≤ g → within f n ≡ within g n
 enough zero g n a b = one-digit 0 n (omega arith) ∙ sym (one-digit g n (omega arith))
 enough (suc f) zero n a b = one-digit (suc f) n (omega arith) ∙ sym (one-digit 0 n (omega arith))
 enough (suc f) (suc g) n a b =
     ⊎-elim
     (λ s. one-digit (suc f) n s ∙ sym (one-digit (suc g) n s))
-    (λ l. more-digits f n l ∙ ap (λ (ds : List ℕ). ds ++ (digit (n % 10) ∷ [])) (enough f g (n / 10) (omega arith) (omega arith)) ∙ sym (more-digits g n l))
+    (λ l.
+    more-digits f n l
+    ∙ ap (λ (ds : List ℕ). ds ++ (digit (n % 10) ∷ [])) (enough f g (n / 10) (omega arith) (omega arith))
+    ∙ sym (more-digits g n l))
     (small-or n)
 
--- the same of the whole text: one digit, one more than n / 10 has, and two
+-- the whole text, by cases: one digit, one more than n / 10 has, and two
 pub decimal-one : (n : ℕ) → n < 10 → decimal n ≡ digit n ∷ []
 unfolding decimal
 decimal-one n h = one-digit n n h
@@ -61,9 +65,10 @@ unfolding decimal
 decimal-more n h = more n (n - 1) h (omega arith)
 
 pub decimal-two : (n : ℕ) → 10 ≤ n → n < 100 → decimal n ≡ digit (n / 10) ∷ digit (n % 10) ∷ []
-decimal-two n l h = decimal-more n l ∙ ap (λ (ds : List ℕ). ds ++ (digit (n % 10) ∷ [])) (decimal-one (n / 10) (omega arith))
+decimal-two n l h =
+    decimal-more n l ∙ ap (λ (ds : List ℕ). ds ++ (digit (n % 10) ∷ [])) (decimal-one (n / 10) (omega arith))
 
--- a fact of every decimal text: of one digit, and of one more digit at the end
+-- a fact holds of every decimal text if it holds of one digit, and goes over to one more digit at the end
 module _ (P : ℕ → List ℕ → Type 0) (one : (n : ℕ) → n < 10 → P n (digit n ∷ []))
     (step : (n : ℕ) (ds : List ℕ) → 10 ≤ n → P (n / 10) ds → P n (ds ++ (digit (n % 10) ∷ [])))
   where
@@ -98,7 +103,7 @@ decimal-value n = each-decimal (λ n ds. valueFrom 0 ds ≡ n)
     (λ n ds l e. valueFrom-last 0 ds (digit (n % 10)) ∙ omega arith)
     n
 
--- two numbers whose texts, and one byte after each, are the same are one
+-- two numbers are the same if their texts are, with the same byte after each
 pub decimal-once : (n m d : ℕ) → decimal n ++ (d ∷ []) ≡ decimal m ++ (d ∷ []) → n ≡ m
 decimal-once n m d e =
     let v = sym (valueFrom-last 0 (decimal n) d) ∙ ap (valueFrom 0) e ∙ valueFrom-last 0 (decimal m) d in
@@ -123,7 +128,7 @@ decimal-digits n =
     (λ n ds l h. all-more ds (digit (n % 10)) (omega arith) (omega arith) h)
     n
 
--- a text that is not the number 0's begins with a digit from 1 to 9
+-- the text of a number other than 0 begins with a digit from 1 to 9
 abbrev pub Leads : ℕ → List ℕ → Type 0
 Leads n [] = ⊥
 Leads n (d ∷ ds) = 0 < n → (49 ≤ d) × (d ≤ 57)

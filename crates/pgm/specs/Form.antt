@@ -46,7 +46,7 @@ headerLimit = 13
 abbrev pub longest : ℕ
 longest = headerLimit + sideLimit * sideLimit
 
--- the first bytes of an input that tell whether it is a picture, and which: one more than any picture has, 3,614
+-- how many first bytes of an input tell whether it is a picture, and which: one more than any picture has, 3,614
 abbrev pub inputLimit : ℕ
 inputLimit = longest + 1
 
@@ -65,7 +65,7 @@ parsedAnswer Malformed = refused 11
 abbrev pub parsedNumber : Parsed → ℕ
 parsedNumber p = answerNumber (parsedAnswer p)
 
--- what an input is parsed as: a picture is of the form and its pixels start after the header; what is malformed is of the
+-- what an input is parsed as: a picture has the form, and its pixels start after the header; a malformed input has the
 -- form for no sides
 abbrev pub Answers : List ℕ → Parsed → Type 0
 Answers input (Picture w h at) = Form input w h × (at ≡ length (header w h))

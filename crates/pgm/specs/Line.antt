@@ -7,7 +7,7 @@ use lib.Dec.{ltb}
 use lib.ListN.{length, drop}
 use Rattle.pgm.specs.Decimal.{decimal}
 
--- a buffer that holds any line: six numbers of 64 bits take at most 126 bytes
+-- the length of a buffer that holds any line: six numbers of 64 bits take at most 126 bytes
 abbrev pub lineRoom : ℕ
 lineRoom = 128
 
@@ -25,8 +25,8 @@ refusedWord = 114 ∷ 101 ∷ 102 ∷ 117 ∷ 115 ∷ 101 ∷ 100 ∷ 32 ∷ []
 abbrev pub refusedLine : ℕ → List ℕ
 refusedLine n = refusedWord ++ line (n ∷ [])
 
--- the contract of a function that writes a line: into a buffer of lineRoom bytes or more go the line's bytes, at its start, and
--- their count is the answer; a shorter buffer is left as it was, and the answer is 0
+-- the contract of a function that writes a line: a buffer of lineRoom bytes or more gets the line's bytes at its start,
+-- and their count is the answer; a shorter buffer is left as it was, and the answer is 0
 pub record Writes (text before : List ℕ) (answer : ℕ) (after : List ℕ) : Type 0 where
   pub answers : answer ≡ cond (ltb (length before) lineRoom) 0 (length text)
   pub leaves : after ≡ cond (ltb (length before) lineRoom) before (text ++ drop (length text) before)

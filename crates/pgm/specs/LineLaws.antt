@@ -1,5 +1,5 @@
--- Every line of 64-bit numbers fits the room that is asked for; and no two refusals, nor a refusal and counts, have one
--- line. Assumes nothing.
+-- Every line of 64-bit numbers fits a buffer of `lineRoom` bytes; and no two refusals, nor a refusal and counts, have
+-- the same line. Assumes nothing.
 use Prim.Native.Nat.{ℕ, _^_, _≤_, _<_}
 use native.Mathlib.Omega.{arith}
 use mathlib.Core.Path.{_≡_, ap}
@@ -28,7 +28,7 @@ refused-fits n h = simp length-append (omega (arith, word-short n h))
 pub refused-once : (n m : ℕ) → refusedLine n ≡ refusedLine m → n ≡ m
 refused-once n m e = decimal-once n m 10 (ap (drop 8) e)
 
--- a line of numbers begins with a digit, and a refusal's with a letter
+-- no line of numbers is a refusal's: it begins with a digit, and a refusal's with a letter
 pub not-refused : (n m k : ℕ) (ns : List ℕ) → line (n ∷ m ∷ ns) ≡ refusedLine k → ⊥
 not-refused n m k ns e = first (decimal n) (decimal-leads n) (decimal-digits n) e
   where

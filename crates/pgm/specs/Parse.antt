@@ -19,22 +19,23 @@ begins (x ∷ text) (b ∷ bytes) = eqb b x && begins text bytes
 abbrev pub formed : List ℕ → ℕ → ℕ → Bool
 formed input w h = eqb (length input) (length (header w h) + w * h) && begins (header w h) input
 
--- how many lengths a side can have: from 0 to the limit
+-- how many values a side can have: from 0 to the limit
 abbrev pub sides : ℕ
 sides = sideLimit + 1
 
--- the one of the first n pairs of sides, w × 61 + h of them before (w, h), of which the input is a picture
+-- tries the first n pairs of sides, the last first: the pair of which the input is a picture, or Malformed. The pair
+-- (w, h) is number w × 61 + h
 unfoldable pub sought : List ℕ → ℕ → Parsed
 sought input zero = Malformed
 sought input (suc n) =
     let w = n / sides in
     let h = n % sides in cond (formed input w h) (Picture w h (length (header w h))) (sought input n)
 
--- the sides of which the input is a picture, and where its pixels start; or that there are none
+-- the sides of which the input is a picture, and where its pixels start; Malformed where there are no such sides
 unfoldable pub parsedOf : List ℕ → Parsed
 unfolding sought
 parsedOf input = sought input (sides * sides)
 
--- the contract of `parse`: the answer to an input
+-- the answer of `parse` to an input
 abbrev pub parsedFrom : List ℕ → Answer PictureFound
 parsedFrom input = parsedAnswer (parsedOf input)

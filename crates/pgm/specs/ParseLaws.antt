@@ -1,5 +1,5 @@
--- What is parsed is the form, for the one pair of sides that an input has; and the first bytes of an input, one more than
--- the longest picture has, tell what is parsed of the whole. Assumes nothing.
+-- What is parsed of an input is the one pair of sides for which it has the form; and the first bytes of an input, one
+-- more than the longest picture has, tell what is parsed of the whole. Assumes nothing.
 use Prim.Native.Nat.{ℕ, zero, suc, _+_, _*_, _/_, _%_, _≤_, _<_}
 use native.Mathlib.Omega.{arith}
 use mathlib.Core.Path.{_≡_, refl, sym, ap, ap₂, subst, _∙_}
@@ -17,7 +17,7 @@ use Rattle.pgm.specs.Form.{sideLimit, header, Form, inputLimit, PictureF
 use Rattle.pgm.specs.FormLaws.{same-header, form-short}
 use Rattle.pgm.specs.Parse.{begins, formed, sides, sought, parsedOf, parsedFrom}
 
--- of two tests both hold
+-- where "one and the other" holds, both tests hold
 both : (a b : Bool) → (a && b) ≡ true → (a ≡ true) × (b ≡ true)
 both true b e = (refl, e)
 both false b e = let z : _≡_ {A = ℕ} 0 1 = cc in absurd (omega arith)
@@ -52,13 +52,14 @@ formed-form input w h ww hh e =
 form-formed : (input : List ℕ) (w h : ℕ) → Form input w h → formed input w h ≡ true
 form-formed input w h f =
     let start = header w h in
-    let l : length input ≡ length start + w * h = ap length (f .whole) ∙ length-append start (f .pixels) ∙ omega (arith, f .counted) in
+    let l : length input ≡ length start + w * h =
+    ap length (f .whole) ∙ length-append start (f .pixels) ∙ omega (arith, f .counted) in
     let b : begins start input ≡ true = ap (begins start) (f .whole) ∙ begins-append start (f .pixels) in
     rw (eq-eqb (length input) (length start + w * h) l, b)
 
 -- ---- what is sought is found
 
--- what is known after n pairs
+-- what is known after n pairs were tried
 abbrev Found : List ℕ → ℕ → Parsed → Type 0
 Found input n (Picture w h at) = Form input w h × (at ≡ length (header w h))
 Found input n Malformed = (k : ℕ) → k < n → formed input (k / sides) (k % sides) ≡ false
@@ -92,7 +93,7 @@ answers-found input Malformed k = λ w h f.
     let z : _≡_ {A = ℕ} 0 1 = cc (yes, no) in
     omega arith
 
--- the parse of any input meets what pgm's `parse` promises, and nothing else does
+-- what is parsed of an input meets `Answers`, and nothing else does
 pub parsed-answers : (input : List ℕ) → Answers input (parsedOf input)
 unfolding parsedOf
 parsed-answers input = answers-found input (sought input (sides * sides)) (found input (sides * sides) (omega arith))
@@ -101,7 +102,8 @@ pub parsed-once : (input : List ℕ) (r s : Parsed) → Answers input r → Answ
 parsed-once input (Picture w h at) (Picture v g to) p q =
     let f = p .0 in
     let k = q .0 in
-    let s = same-header w h v g (f .pixels) (k .pixels) (f .wide) (f .high) (k .wide) (k .high) (sym (f .whole) ∙ k .whole) in
+    let same = sym (f .whole) ∙ k .whole in
+    let s = same-header w h v g (f .pixels) (k .pixels) (f .wide) (f .high) (k .wide) (k .high) same in
     let a : w ≡ v = s .0 in
     let b : h ≡ g = s .1 .0 in
     let l : length (header w h) ≡ length (header v g) = rw (a, b) in
@@ -114,7 +116,9 @@ parsed-once input Malformed Malformed p q = refl
 -- the answer determines what was parsed
 told-once : (r s : Parsed) → parsedAnswer r ≡ parsedAnswer s → r ≡ s
 told-once (Picture w h at) (Picture v g to) p =
-    let q : _≡_ {A = PictureFound} (record { width = w; height = h; start = at }) (record { width = v; height = g; start = to }) = cc in
+    let q : _≡_ {A = PictureFound} (record { width = w; height = h; start = at })
+    (record { width = v; height = g; start = to }) =
+    cc in
     let a : w ≡ v = ap (λ (f : PictureFound). f .width) q in
     let b : h ≡ g = ap (λ (f : PictureFound). f .height) q in
     let c : at ≡ to = ap (λ (f : PictureFound). f .start) q in
@@ -123,7 +127,7 @@ told-once (Picture w h at) Malformed p = let z : _≡_ {A = ℕ} 0 1 = cc in abs
 told-once Malformed (Picture v g to) p = let z : _≡_ {A = ℕ} 0 1 = cc in absurd (omega arith)
 told-once Malformed Malformed p = refl
 
--- so what meets the form has the answer, and the answer the form
+-- what meets `Answers` has the answer of `parse`, and what has that answer meets `Answers`
 pub parsed-from : (input : List ℕ) (r : Parsed) → Answers input r → parsedAnswer r ≡ parsedFrom input
 parsed-from input r a = ap parsedAnswer (parsed-once input r (parsedOf input) a (parsed-answers input))
 
@@ -132,20 +136,21 @@ pub picture-from : (input : List ℕ) {w h at : ℕ} → Answers input (Picture 
 picture-from input {w} {h} {at} a = parsed-from input (Picture w h at) a
 
 pub parsed-means : (input : List ℕ) (r : Parsed) → parsedAnswer r ≡ parsedFrom input → Answers input r
-parsed-means input r e = subst (λ (p : Parsed). Answers input p) (sym (told-once r (parsedOf input) e)) (parsed-answers input)
+parsed-means input r e =
+    subst (λ (p : Parsed). Answers input p) (sym (told-once r (parsedOf input) e)) (parsed-answers input)
 
--- once what was parsed is known
+-- the same of s, once it is known to be what `parse` returned
 pub parsed-as : (input : List ℕ) {r s : Parsed} → r ≡ s → parsedAnswer r ≡ parsedFrom input → Answers input s
 parsed-as input {s = s} e a = parsed-means input s (ap parsedAnswer (sym e) ∙ a)
 
--- anything that is made of what is parsed, once an answer is known
+-- anything that is made of what is parsed is made of any r that meets `Answers`
 pub parsed-by : {A : Type 0} (by : Parsed → List ℕ → A) (input : List ℕ) (r : Parsed) → Answers input r →
     by (parsedOf input) input ≡ by r input
 parsed-by by input r a = ap (λ (p : Parsed). by p input) (parsed-once input (parsedOf input) r (parsed-answers input) a)
 
 -- ---- the first bytes are enough
 
--- as many of an input are all of it, or neither they nor the input are a picture
+-- the first m bytes of an input are all of it, or neither they nor the input are a picture
 module _ (input : List ℕ) (m : ℕ) (enough : inputLimit ≤ m) where
   start : (take m input ≡ input) ⊎ (Answers input Malformed × Answers (take m input) Malformed)
   start = go (ltb m (length input)) refl
@@ -156,9 +161,13 @@ module _ (input : List ℕ) (m : ℕ) (enough : inputLimit ≤ m) where
       go true e =
           let l = ltb-true m (length input) e in
           let t = length-take-le m input (omega arith) in
-          inr ((λ w h f. omega (arith, form-short input w h f)), (λ w h f. omega (arith, form-short (take m input) w h f, t)))
+          inr (
+            (λ w h f. omega (arith, form-short input w h f)),
+            (λ w h f. omega (arith, form-short (take m input) w h f, t)),
+          )
 
-  -- so anything made of what is parsed, that is the same for all inputs that are no picture, is that of the first bytes
+  -- so anything that is made of what is parsed, and is the same for all inputs that are no picture, is that of the
+  -- first bytes
   pub start-parsed : {A : Type 0} (by : Parsed → List ℕ → A) → ((a b : List ℕ) → by Malformed a ≡ by Malformed b) →
       by (parsedOf (take m input)) (take m input) ≡ by (parsedOf input) input
   start-parsed by same =

@@ -1,5 +1,5 @@
 // The input and the answer of a program on grey pictures, as bytes. A picture comes as "P5 w h 255", a line feed and
-// w × h bytes, and no other form is taken; an answer is one line of decimal text. No public call has a condition.
+// w × h bytes, and any other form is refused; an answer is one line of decimal text. No public call has a condition.
 ghost use Prim.Native.Nat.{_+_, _≤_};
 ghost use mathlib.Core.Path.{_≡_};
 ghost use mathlib.Core.List.{[], _∷_, _++_};
@@ -16,13 +16,13 @@ pub const SIDE_LIMIT: usize = 60;
 // The length of a buffer that holds any line.
 pub const LINE_ROOM: usize = 128;
 
-// The width, the height and where the pixels start.
+// What `parse` answers: the width, the height and where the pixels start; or that the input has another form.
 pub enum Parsed {
     Picture(usize, usize, usize),
     Malformed,
 }
 
-// A side, and the place after the space that follows it.
+// What `read_side` answers: a side and the place after the space that ends it; or that no side stands there.
 enum Side {
     Number(usize, usize),
     Malformed,
@@ -100,7 +100,7 @@ fn read_side(input: &[u8], at: usize) -> Side
     Side::Number(side, at + 3)
 }
 
-// Reads the sides that a header names, and tells where it ends.
+// Reads the sides that a header names, and tells where the header ends.
 fn read_header(input: &[u8]) -> Parsed
     ensures { λ r. ⌜ ReadsHeader (now (input .entry)) r ⌝ }
 {
@@ -119,7 +119,8 @@ fn read_header(input: &[u8]) -> Parsed
     Parsed::Picture(width, height, last + 4)
 }
 
-// Parses an input: gives the sides of the picture that it is and where its pixels start, or that it has another form.
+// Parses an input: gives the sides of the picture that it is and where its pixels start, or tells that it has another
+// form.
 pub fn parse(input: &[u8]) -> Parsed
     ensures { λ r. ⌜ parsedAnswer r ≡ parsedFrom (now (input .entry)) ⌝ }
 {
@@ -146,7 +147,7 @@ fn put_number(out: &mut [u8], at: usize, number: u64) -> usize
     last + 1
 }
 
-// Writes a number and the byte that follows it.
+// Writes a number and the byte that follows it, and answers the place after them.
 fn put_field(out: &mut [u8], at: usize, number: u64, end: u8) -> usize
     requires { ⌜ at + 21 ≤ length (now out) ⌝ }
     ensures { λ r. ⌜ Puts (decimal number ++ (end ∷ [])) at (now (out .entry)) r (now (out .exit)) ⌝ }
@@ -156,7 +157,7 @@ fn put_field(out: &mut [u8], at: usize, number: u64, end: u8) -> usize
     next + 1
 }
 
-// Writes three numbers with spaces between, and the byte that follows them.
+// Writes three numbers with spaces between and the byte that follows them, and answers the place after that.
 fn put_three(out: &mut [u8], at: usize, a: u64, b: u64, c: u64, end: u8) -> usize
     requires { ⌜ at + 63 ≤ length (now out) ⌝ }
     ensures { λ r. ⌜ Puts (three a b c end) at (now (out .entry)) r (now (out .exit)) ⌝ }
@@ -179,7 +180,8 @@ fn put_text(out: &mut [u8], text: &[u8]) -> usize
     i
 }
 
-// Writes the line of a reading's counts. A buffer of less than LINE_ROOM bytes is left as it is, and the answer is 0.
+// Writes the line of a reading's counts, and answers its length. A buffer of less than LINE_ROOM bytes is left as it
+// is, and the answer is 0.
 pub fn counts_line(
     width: u64,
     height: u64,
@@ -189,7 +191,8 @@ pub fn counts_line(
     comparisons: u64,
     out: &mut [u8],
 ) -> usize
-    ensures { λ r. ⌜ Writes (line (width ∷ height ∷ dark ∷ light ∷ skipped ∷ comparisons ∷ [])) (now (out .entry)) r (now (out .exit)) ⌝ }
+    ensures { λ r. ⌜ Writes (line (width ∷ height ∷ dark ∷ light ∷ skipped ∷ comparisons ∷ []))
+        (now (out .entry)) r (now (out .exit)) ⌝ }
 {
     if out.len() < LINE_ROOM {
         return 0;
@@ -198,7 +201,8 @@ pub fn counts_line(
     put_three(out, half, light, skipped, comparisons, 10)
 }
 
-// Writes the line of a refusal. A buffer of less than LINE_ROOM bytes is left as it is, and the answer is 0.
+// Writes the line of a refusal, and answers its length. A buffer of less than LINE_ROOM bytes is left as it is, and the
+// answer is 0.
 pub fn refused_line(number: u32, out: &mut [u8]) -> usize
     ensures { λ r. ⌜ Writes (refusedLine number) (now (out .entry)) r (now (out .exit)) ⌝ }
 {

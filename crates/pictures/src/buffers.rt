@@ -1,26 +1,27 @@
-// What a lent slice holds before a call, and whether it holds what it should afterwards: bytes that stand in the list,
-// or else noise. rust/vectors/src/list.rs makes the same noise.
+// Fills the slices that are lent to a call, and compares them afterwards. They hold bytes that stand in the list, or
+// else noise. rust/vectors/src/list.rs makes the same noise.
 use std::num::wrapping_add_usize;
 use std::num::wrapping_sub_usize;
 
-// The part of a case's numbers that lists a slice, from a place to another; noise where it is empty.
+// The part of a case's numbers that lists a slice, from one place to another. An empty part stands for noise.
 pub struct Part(pub usize, pub usize);
 
-// The noise of a seed: its first state, and the state after another.
+// Gives the first state of a seed's noise.
 fn start(seed: usize) -> usize {
     seed % 4294967296 * 2654435761 % 4294967296
 }
 
+// Gives the state that follows a state.
 fn step(state: usize) -> usize {
     (state % 4294967296 * 1664525 + 1013904223) % 4294967296
 }
 
-// Both halves of a word are the state.
+// Makes a u64 of noise, both halves of which are the state.
 fn noise_word(state: usize) -> u64 {
     (state % 4294967296 * 4294967297) as u64
 }
 
-// What byte i should be; 256, which is no byte, past the end of its part.
+// Gives what byte i should be; past the end of its part 256, which no byte is.
 fn listed(numbers: &[usize], part: Part, i: usize, state: usize) -> usize {
     let end = part.1;
     let at = wrapping_add_usize(part.0, i);
@@ -35,7 +36,7 @@ fn listed(numbers: &[usize], part: Part, i: usize, state: usize) -> usize {
     256
 }
 
-// A number as a byte; 0 where it is larger.
+// Gives a number as a byte, and 0 where it is larger.
 pub fn byte(value: usize) -> u8 {
     if value > 255 {
         return 0;
@@ -47,6 +48,7 @@ pub fn wide(x: u8) -> usize {
     x as usize
 }
 
+// Fills a slice with the bytes of its part, or with the noise of a seed.
 pub fn fill(data: &mut [u8], numbers: &[usize], part: Part, seed: usize) {
     let mut state = start(seed);
     let mut i = 0;
@@ -57,11 +59,12 @@ pub fn fill(data: &mut [u8], numbers: &[usize], part: Part, seed: usize) {
     }
 }
 
-// Whether a part is as long as the slice that it lists.
+// Tests whether a part is as long as the slice that it lists.
 fn fits(part: Part, length: usize) -> bool {
     part.0 == part.1 || wrapping_sub_usize(part.1, part.0) == length
 }
 
+// Tests whether a slice holds the bytes of its part, or the noise of a seed.
 pub fn same(data: &[u8], numbers: &[usize], part: Part, seed: usize) -> bool {
     let mut right = fits(part, data.len());
     let mut state = start(seed);
@@ -74,6 +77,7 @@ pub fn same(data: &[u8], numbers: &[usize], part: Part, seed: usize) -> bool {
     right
 }
 
+// Fills a u64 workspace with the noise of a seed.
 pub fn fill_words(data: &mut [u64], seed: usize) {
     let mut state = start(seed);
     let mut i = 0;
@@ -84,6 +88,7 @@ pub fn fill_words(data: &mut [u64], seed: usize) {
     }
 }
 
+// Tests whether a u64 workspace holds the noise of a seed.
 pub fn same_words(data: &[u64], seed: usize) -> bool {
     let mut right = true;
     let mut state = start(seed);
@@ -96,7 +101,7 @@ pub fn same_words(data: &[u64], seed: usize) -> bool {
     right
 }
 
-// Copies as many bytes as both slices have, and gives how many.
+// Copies as many bytes as both slices have, and returns their number.
 pub fn copy(from: &[u8], to: &mut [u8]) -> usize {
     let mut i = 0;
     while i < from.len() {

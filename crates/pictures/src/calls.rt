@@ -1,4 +1,4 @@
-// The public calls, by the number that a list gives them.
+// Makes the public calls, each by the number that a list gives it.
 use crate::buffers;
 use crate::reply;
 use crate::reply::Answer;
@@ -88,7 +88,8 @@ fn read(f: Numbers, from: &[u8], to: &mut [u8], bytes: &mut [u8], words: &mut [u
     reply::read(reading::reading(from, g, to, h, s, bytes, words))
 }
 
-// The program's answer has no number: its list says whether the call leaves all but the line as it was.
+// Makes the call of the first number. The program's answer has no number: its list says whether the call leaves all but
+// the line as it was.
 pub fn call(
     f: Numbers,
     from: &[u8],

@@ -1,7 +1,8 @@
-// A case: fills what is lent, calls, and judges the answer and what is left. A line's sections: the call and its
-// numbers; the lengths of the slices from, to, other, bytes and words; the answer; then the bytes of from before the
-// call, of to before it, of to after it and of other after it. A slice with no bytes listed before holds noise. No call
-// writes `from`. What is not listed after a call is as before if the call was refused, and is else left open.
+// Runs a case: fills what is lent, makes the call, and compares the answer and what is left. A line's sections are the
+// call and its numbers; the lengths of the slices from, to, other, bytes and words; the answer; then the bytes of from
+// before the call, of to before it, of to after it and of other after it. A slice with no bytes listed before holds
+// noise. No call writes `from`. A slice that is not listed after a call has to be as before if the call was refused,
+// and may else hold anything.
 use crate::buffers;
 use crate::buffers::Part;
 use crate::calls;
@@ -12,7 +13,7 @@ use crate::reply::Answer;
 use crate::settings::Numbers;
 use std::num::wrapping_add_usize;
 
-// The call, its answer, the seed of its noise, and the parts of the line that list bytes.
+// A case has its call, the answer, the seed of its noise, and the parts of the line that list bytes.
 struct Case {
     call: Numbers,
     answer: Answer,
@@ -41,7 +42,7 @@ fn fill(
     buffers::fill_words(words, wrapping_add_usize(c.seed, 4));
 }
 
-// Whether a slice that a call may write holds what it should.
+// Tests whether a slice that a call may write holds what it should.
 fn left(data: &[u8], n: &[usize], before: Part, after: Part, refused: bool, seed: usize) -> bool {
     if after.0 != after.1 {
         return buffers::same(data, n, after, seed);
@@ -54,7 +55,7 @@ fn left_workspaces(n: &[usize], bytes: &[u8], words: &[u64], refused: bool, seed
     words_left && left(bytes, n, NOISE, NOISE, refused, wrapping_add_usize(seed, 3))
 }
 
-// Of a source and two destinations; `r` says that the call was refused.
+// Tests a source and two destinations; `r` says that the call was refused.
 fn left_slices(c: Case, n: &[usize], from: &[u8], to: &[u8], other: &[u8], r: bool) -> bool {
     let seed = wrapping_add_usize(c.seed, 1);
     let first = left(to, n, c.before, c.after, r, seed);
@@ -125,7 +126,7 @@ fn listed(text: &[u8], r: Reader, seed: usize, call: Numbers, l: [usize; 5], e: 
     numbers::whole(text, other) && lend(case, &n, l)
 }
 
-// Whether the case that begins at a place holds.
+// Tests whether the case that begins at a place holds.
 pub fn holds(text: &[u8], at: usize, seed: usize) -> bool {
     let mut call = [0; 24];
     let mut lengths = [0; 5];

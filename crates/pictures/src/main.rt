@@ -11,7 +11,7 @@ mod settings;
 use libc::STDOUT_FILENO;
 use replay::Score;
 
-// A list is shorter than this.
+// Every list is shorter than this.
 const LONGEST: usize = 131072;
 
 fn write_count(words: &[u8], count: usize) {

@@ -1,9 +1,9 @@
-// The text of a list: a case a line, its sections separated by ';', each of them numbers separated by spaces. Empty
-// lines and lines that begin with '#' hold no case.
+// Reads the text of a list: each line is a case, ';' separates its sections, and spaces separate the numbers of a
+// section. Empty lines and lines that begin with '#' hold no case.
 use std::num::wrapping_add_usize;
 
-// Where a reader stands: the next byte, the place of its next number in the array, what it has read of that number, and
-// whether the text had the form so far.
+// A reader knows the next byte, the place of its next number in the array, what it has read of that number, and whether
+// the text had the form so far.
 pub struct Reader {
     pub at: usize,
     pub count: usize,
@@ -12,7 +12,7 @@ pub struct Reader {
     pub good: bool,
 }
 
-// The reader at a place, for an array of its own; `good` says that the text had the form so far.
+// Begins a reader at a place, for an array of its own; `good` says that the text had the form so far.
 pub fn begin(at: usize, good: bool) -> Reader {
     Reader {
         at: at,
@@ -23,7 +23,7 @@ pub fn begin(at: usize, good: bool) -> Reader {
     }
 }
 
-// The reader behind the number of which it has read a digit.
+// Moves the reader behind the number of which it has read a digit.
 fn closed(r: Reader) -> Reader {
     let mut next = r;
     if r.open {
@@ -69,7 +69,7 @@ fn put(out: &mut [usize], i: usize, value: usize) {
     }
 }
 
-// The reader at the end of a section, of which no number may be left out.
+// Ends a section, which is bad where its numbers do not fit into the array.
 fn ended(r: Reader, at: usize, room: usize) -> Reader {
     let mut next = closed(r);
     next.at = at;
@@ -98,7 +98,7 @@ pub fn section(text: &[u8], r: Reader, out: &mut [usize]) -> Reader {
     ended(reader, at, out.len())
 }
 
-// The byte at a place, and a line feed past the end.
+// Gives the byte at a place, and a line feed past the end.
 pub fn byte_at(text: &[u8], at: usize) -> u8 {
     if at < text.len() {
         return text[at];
@@ -106,12 +106,12 @@ pub fn byte_at(text: &[u8], at: usize) -> u8 {
     b'\n'
 }
 
-// Whether a line had the form, and is read to its end.
+// Tests whether a line had the form, and is read to its end.
 pub fn whole(text: &[u8], r: Reader) -> bool {
     r.good && byte_at(text, r.at) == b'\n'
 }
 
-// The place behind the line that holds a place.
+// Finds the place behind the line that holds a place.
 pub fn next_line(text: &[u8], from: usize) -> usize {
     let mut at = from;
     while at < text.len() {

@@ -3,7 +3,7 @@ use crate::case;
 use crate::numbers;
 use std::num::wrapping_add_usize;
 
-// How many lines were read, how many cases they hold, how many came out wrong, and the line of the first of them. The
+// Counts the lines that were read, the cases in them and the wrong ones, and keeps the line of the first wrong one. The
 // noise of a case has five seeds, and the first is eight above that of the case before it.
 pub struct Score {
     line: usize,
@@ -32,12 +32,12 @@ fn missed(score: Score) -> Score {
     s
 }
 
-// The score of a list that is too long to be read.
+// Gives the score of a list that is too long to be read.
 pub fn unread() -> Score {
     missed(begin())
 }
 
-// The score with the line that begins at a place.
+// Adds the line that begins at a place to the score.
 fn scored(score: Score, text: &[u8], at: usize) -> Score {
     let mut s = score;
     s.line = wrapping_add_usize(s.line, 1);

@@ -1,4 +1,4 @@
-// A call's answer as a list gives it: the number of its refusal, or 0, and up to four values.
+// Gives a call's answer as a list has it: the number of its refusal, or 0, and up to four values.
 use crate::buffers::wide;
 use image::Pixel;
 use image::Written;
@@ -14,7 +14,7 @@ use imgproc::threshold::Binarized;
 
 pub type Answer = [usize; 5];
 
-// A refusal's number, or 0.
+// Gives the answer of a refusal's number, or of 0.
 pub fn numbered(number: u32) -> Answer {
     [number as usize, 0, 0, 0, 0]
 }
@@ -90,6 +90,7 @@ pub fn read(answer: Read) -> Answer {
     }
 }
 
+// Compares an answer with the one that a list expects.
 pub fn is(a: Answer, e: Answer) -> bool {
     a[0] == e[0] && a[1] == e[1] && a[2] == e[2] && a[3] == e[3] && a[4] == e[4]
 }

@@ -1,4 +1,4 @@
-// The pictures and the settings of a call, from its numbers. An offset is a pattern of 16 bits, a float one of 64.
+// Makes the pictures and the settings of a call from its numbers. An offset is a pattern of 16 bits, a float one of 64.
 use crate::buffers::byte;
 use image::Geometry;
 use imgproc::grid::SauvolaFloats;
@@ -9,7 +9,7 @@ use imgproc::illumination::BackgroundDivideConfig;
 use imgproc::reading::ReadingConfig;
 use imgproc::threshold::SauvolaConfig;
 
-// As many numbers as a call may have, its own first.
+// The numbers of a call: its own first, then as many as any call has.
 pub type Numbers = [usize; 24];
 
 pub fn source(f: Numbers) -> Geometry {
@@ -36,7 +36,7 @@ pub fn division(f: Numbers) -> BackgroundDivideConfig {
     }
 }
 
-// A number of 32 bits; 0 where it is larger.
+// Gives a number as a u32, and 0 where it is larger.
 fn word(value: usize) -> u32 {
     if value > 4294967295 {
         return 0;
@@ -54,7 +54,7 @@ pub fn window(radius: usize, k: usize, range: usize, dark: usize, light: usize) 
     }
 }
 
-// The offset of a pattern; 0 where the number is no pattern. A negative one is the complement of the rest.
+// Gives the offset of a pattern, and 0 where the number is no pattern. A negative offset is the complement of the rest.
 fn offset(bits: usize) -> i16 {
     if bits < 32768 {
         return bits as i16;
@@ -65,7 +65,7 @@ fn offset(bits: usize) -> i16 {
     !((65535 - bits) as i16)
 }
 
-// The float of a pattern; of a NaN's, a NaN.
+// Gives the float of a pattern; for each pattern of a NaN, a NaN.
 fn float(bits: u64) -> f64 {
     if bits % 9223372036854775808 / 4503599627370496 == 2047 {
         if bits % 4503599627370496 != 0 {
@@ -89,7 +89,7 @@ fn method(kind: usize, k: usize, range: usize) -> TileThresholdMethod {
     })
 }
 
-// Tile sides, neighbourhood radius and contrast floor, the method's kind, k and range, and the offset.
+// Takes the tile sides, the neighbourhood radius, the contrast floor, the method's kind, k and range, and the offset.
 fn tiles(s: [usize; 8]) -> TileThresholdConfig {
     TileThresholdConfig {
         tile_width: s[0],

@@ -1,11 +1,12 @@
--- `answer` parses, and answers a picture or refuses. Assumes nothing.
+-- `answer` parses the input, and answers the picture that it is or refuses it with 11. Assumes nothing.
 use borrow.Author.Needs.{needs}
 use denote.Ref.{now}
 use mathlib.Core.Path.{refl}
 use Rattle.pgm.specs.ParseLaws.{parsed-as}
-use Rattle.answer.proofs.Ways.{pixels-start, answers-picture, answers-other}
+use Rattle.answer.proofs.answer.Proof.Inputs.{pixels-start, answers-picture, answers-other}
 use Rattle.answer.proofs.answer.Statement.{statement}
 use Rattle.answer.proofs.answer.Tie as tie
+mod Inputs
 
 parse-requires : tie.Need-parse-requires
 parse-requires c κs = search needs

@@ -1,4 +1,4 @@
--- The bytes that were read are enough. Assumes nothing.
+-- `answer_start` answers what was read as it would the whole input: the bytes that a buffer holds are enough. Assumes nothing.
 use borrow.Author.Needs.{needs}
 use native.Mathlib.Omega.{arith}
 use denote.Ref.{now}

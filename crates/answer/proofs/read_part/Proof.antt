@@ -1,4 +1,4 @@
--- The first n bytes of a buffer, or all of it where n is more. Assumes nothing.
+-- `read_part` gives the first n bytes of a buffer, or all of it where n is more. Assumes nothing.
 use native.Mathlib.Omega.{arith}
 use mathlib.Core.Path.{refl, sym}
 use denote.Ref.{now}

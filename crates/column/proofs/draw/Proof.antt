@@ -1,4 +1,4 @@
--- The line, and then the rows of a picture. Assumes nothing.
+-- `draw` writes the line into the first part of the buffer, and then the rows of a picture after it. Assumes nothing.
 use borrow.Author.Needs.{needs}
 use native.Mathlib.Omega.{arith}
 use mathlib.Core.Path.{refl, sym}
@@ -6,9 +6,10 @@ use lib.Seq.{length-take-le}
 use denote.Ref.{now}
 use Rattle.pgm.specs.declared.Parsed.the-variants.{Malformed}
 use Rattle.pgm.specs.ParseLaws.{parsed-as}
-use Rattle.column.proofs.Drawn.{lined, undrawn, undrawn-wide, undrawn-high, length-marks, room-rows, drawn}
+use Rattle.column.proofs.draw.Proof.Drawn.{lined, undrawn, undrawn-wide, undrawn-high, length-marks, room-rows, drawn}
 use Rattle.column.proofs.draw.Statement.{statement}
 use Rattle.column.proofs.draw.Tie as tie
+mod Drawn
 
 slice-relend-prefix-answer-and-mark : tie.Need-slice-relend-prefix-answer-and-mark
 slice-relend-prefix-answer-and-mark c = search needs

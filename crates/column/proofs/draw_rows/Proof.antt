@@ -1,4 +1,4 @@
--- Each byte of the rows in turn. Assumes nothing.
+-- `draw_rows` writes the bytes of the rows one after another: the first i of them are written. Assumes nothing.
 use Prim.Native.Nat.{ℕ, _+_, _-_, _*_, _≤_}
 use native.Mathlib.Omega.{arith}
 use mathlib.Core.Path.{_≡_, refl, sym, ap, _∙_}
@@ -7,9 +7,10 @@ use denote.Ref.{now}
 use Rattle.image.specs.Plane.{tabulate, overwritten}
 use Rattle.image.specs.PlaneLaws.{plane-tabulated}
 use Rattle.image.specs.WriteLaws.{written-none, written-more, length-written}
-use Rattle.column.proofs.Rows.{laid, inside}
+use Rattle.column.proofs.draw_rows.Proof.Rows.{laid, inside}
 use Rattle.column.proofs.draw_rows.Statement.{statement}
 use Rattle.column.proofs.draw_rows.Tie as tie
+mod Rows
 
 abbrev Inv-loop : tie.InvT-loop
 Inv-loop pixels width height out₀ at wide total i₀ out i = (i ≤ total) × (out ≡ overwritten at (tabulate (laid pixels width) i) out₀)
@@ -35,7 +36,9 @@ div-row-byte : tie.Need-div-row-byte Inv-loop μ-loop
 div-row-byte c = omega arith
 
 row-byte-requires : tie.Need-row-byte-requires Inv-loop μ-loop
-row-byte-requires c κs = let s = c .before .before .before .before in inside (s .args .width) (s .args .height) (c .before .loop .i) _ (s .pre .holds) (omega arith)
+row-byte-requires c κs =
+    let s = c .before .before .before .before in
+    inside (s .args .width) (s .args .height) (c .before .loop .i) _ (s .pre .holds) (omega arith)
 
 add-out : tie.Need-add-out Inv-loop μ-loop
 add-out c = omega arith

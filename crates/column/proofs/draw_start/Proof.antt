@@ -1,4 +1,4 @@
--- The bytes that were read are enough. Assumes nothing.
+-- `draw_start` draws what was read as it would the whole input: the bytes that a buffer holds are enough. Assumes nothing.
 use borrow.Author.Needs.{needs}
 use denote.Ref.{now}
 use Rattle.answer.specs.ProgramLaws.{prints-start}

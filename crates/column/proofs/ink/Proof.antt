@@ -1,4 +1,4 @@
--- The dark value is 0. Assumes nothing.
+-- `ink` gives '#' for 0, the value of a dark pixel, and '.' for every other. Assumes nothing.
 use borrow.Author.Tests.{eq-eqb, ne-eqb}
 use Rattle.column.proofs.ink.Statement.{statement}
 use Rattle.column.proofs.ink.Tie as tie

@@ -1,4 +1,4 @@
--- A mark, or the line feed after a row. Assumes nothing.
+-- `row_byte` gives a mark, or the line feed that ends a row. Assumes nothing.
 use native.Mathlib.Omega.{arith}
 use borrow.Author.Tests.{eq-eqb, ne-eqb}
 use borrow.Author.Needs.{needs}

@@ -26,7 +26,7 @@ returns c =
     let a = l .before .before .args in
     value-refused (now (a .«data»)) (a .geometry) (a .x) (a .y) (l .check-pixel .ensures) (c .before .enum-told .given .1) (c .refusal .ensures)
 
--- the pixel's place
+-- the pixel's byte lies in the slice
 place : (c : tie.After-known-told) →
     (c .before .before .before .before .before .args .y) * (c .before .layout .given .0 .0 .stride) + (c .before .before .before .before .before .args .x)
     < length (now (c .before .before .before .before .before .args .«data»))

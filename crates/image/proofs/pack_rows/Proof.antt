@@ -25,14 +25,15 @@ loop-holds c =
 
 -- row y lies in the workspace
 fits : (c : tie.In-loop Inv-loop μ-loop) →
-    let a = c .before .before .before .before .args in a .at + c .before .loop .y * a .geometry .width + a .geometry .width ≤ length (c .before .loop .workspace)
+    let a = c .before .before .before .before .args in
+    a .at + c .before .loop .y * a .geometry .width + a .geometry .width ≤ length (c .before .loop .workspace)
 fits c =
     let s = c .before .before .before .before in
     let a = s .args in
     fill-fits (a .geometry .width) (a .geometry .height) (pixel (now (a .src)) (a .geometry .stride)) (a .at) (now (a .workspace)) (s .pre .1)
     (c .before .loop .y) (c .before .loop .inv) (c .loop-test .taken)
 
--- and so does what the workspace was
+-- and in the workspace as it was lent
 fits-before : (c : tie.In-loop Inv-loop μ-loop) →
     let a = c .before .before .before .before .args in a .at + c .before .loop .y * a .geometry .width + a .geometry .width ≤ length (now (a .workspace))
 fits-before c =

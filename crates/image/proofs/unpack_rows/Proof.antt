@@ -8,9 +8,10 @@ use denote.Ref.{now}
 use Rattle.image.specs.LayoutLaws.{row-within}
 use Rattle.image.specs.Plane.{part}
 use Rattle.image.specs.PaintRows.{RowsPainted, rows-start, rows-same, rows-done, row-fits, part-long, rows-next}
-use Rattle.image.proofs.Copies.{from-fits, from-long, from-pixel}
+use Rattle.image.proofs.unpack_rows.Proof.Planes.{from-fits, from-long, from-pixel}
 use Rattle.image.proofs.unpack_rows.Statement.{statement}
 use Rattle.image.proofs.unpack_rows.Tie as tie
+mod Planes
 
 abbrev Inv-loop : tie.InvT-loop
 Inv-loop workspace at dst₀ width height stride y₀ dst y = RowsPainted (part at (width * height) workspace) width height stride dst₀ dst y
@@ -29,7 +30,7 @@ from c =
     let a = s .args in
     from-fits (now (a .workspace)) (a .at) (a .geometry .width) (a .geometry .height) (s .pre .1) (c .before .loop .y) (c .loop-test .taken)
 
--- and in the destination
+-- and in the destination, which keeps its length
 to : (c : tie.In-loop Inv-loop μ-loop) →
     let a = c .before .before .before .before .args in
     (c .before .loop .y * a .geometry .stride + a .geometry .width ≤ length (c .before .loop .dst)) × (length (c .before .loop .dst) ≡ length (now (a .dst)))

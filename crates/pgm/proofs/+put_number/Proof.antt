@@ -1,4 +1,4 @@
--- `put_number` writes the digits of a number / 10 by a call of itself, and then the last digit. The measure is the number. Assumes nothing.
+-- `put_number` calls itself to write the digits of number / 10, and then writes the last digit. The measure is the number. Assumes nothing.
 use native.Mathlib.Omega.{arith}
 use Prim.Native.Nat.{ℕ, _+_, _/_, _%_, _≤_, _<_}
 use mathlib.Core.Path.{_≡_, ap, _∙_}
@@ -16,7 +16,7 @@ use Rattle.pgm.proofs.+put_number.Lts-put_number as put-number-lts
 use Rattle.pgm.proofs.+put_number.{statement}
 use Rattle.pgm.proofs.+put_number.Tie.{close}
 
--- how many digits: one, or one more than before
+-- a number below 10 has one digit, any other one more than number / 10
 one-long : (n : ℕ) → n < 10 → length (decimal n) ≡ 1
 one-long n s = ap length (decimal-one n s)
 

@@ -13,7 +13,7 @@ use Rattle.pgm.proofs.Places.{puts-length, puts-join}
 use Rattle.pgm.proofs.counts_line.Statement.{statement}
 use Rattle.pgm.proofs.counts_line.Tie as tie
 
--- three numbers of 64 bits with a byte after each
+-- three numbers of 64 bits, with a byte after each, have at most 63 bytes
 short : (a b c end : ℕ) → a < 2 ^ 64 → b < 2 ^ 64 → c < 2 ^ 64 → length (three a b c end) ≤ 63
 short a b c end h i j = omega (arith, three-long a b c end, word-short a h, word-short b i, word-short c j)
 
@@ -48,7 +48,8 @@ returns-2 c =
     let s = short (a .width) (a .height) (a .dark) 32 (omega (arith, start)) (omega (arith, start)) (omega (arith, start)) in
     let t = short (a .light) (a .skipped) (a .comparisons) 10 (omega (arith, start)) (omega (arith, start)) (omega (arith, start)) in
     rw (← threes-line (a .width) (a .height) (a .dark) (a .light) (a .skipped) (a .comparisons))
-    (written _ _ _ _ room (puts-join (half .put-three .ensures) (three (a .light) (a .skipped) (a .comparisons) 10) _ _ (all .put-three2 .ensures) (omega arith)))
+    (written _ _ _ _ room
+    (puts-join (half .put-three .ensures) (three (a .light) (a .skipped) (a .comparisons) 10) _ _ (all .put-three2 .ensures) (omega arith)))
 
 pub counts-line-spec : {M : Type 1} → statement M
 counts-line-spec = tie.close (tie.spec returns put-three-requires put-three-requires-2 same-length returns-2)

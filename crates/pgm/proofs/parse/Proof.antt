@@ -4,9 +4,10 @@ use native.Mathlib.Omega.{arith}
 use denote.Ref.{now}
 use Rattle.pgm.specs.ParseLaws.{parsed-from, picture-from}
 use Rattle.pgm.specs.declared.Parsed.the-variants.{Malformed}
-use Rattle.pgm.proofs.Headers.{header-as, no-header, header-inside, pixels-few, miscounted, formed}
+use Rattle.pgm.proofs.parse.Proof.Counted.{header-as, no-header, header-inside, pixels-few, miscounted, formed}
 use Rattle.pgm.proofs.parse.Statement.{statement}
 use Rattle.pgm.proofs.parse.Tie as tie
+mod Counted
 
 read-header-requires : tie.Need-read-header-requires
 read-header-requires c κs = search needs

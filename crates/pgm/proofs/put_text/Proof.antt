@@ -18,9 +18,12 @@ Inv-loop out₀ text i₀ out i = (i ≤ length text) × ((length out ≡ length
 abbrev μ-loop : tie.MeasureT-loop
 μ-loop out₀ text i₀ out i = length text - i
 
--- one byte more
-one-more : (text d e : List ℕ) (i : ℕ) → i < length text → length text ≤ length d → Puts (take i text) 0 d i e → Puts (take (i + 1) text) 0 d (i + 1) (set e i (getD text i 0))
-one-more text d e i s f p = rw (add-one i, take-suc text i 0 s, ← add-one i) (puts-then p (getD text i 0) (omega (arith, length-take-le i text (omega arith))))
+-- storing byte i after the first i bytes writes one more
+one-more : (text d e : List ℕ) (i : ℕ) → i < length text → length text ≤ length d → Puts (take i text) 0 d i e
+    → Puts (take (i + 1) text) 0 d (i + 1) (set e i (getD text i 0))
+one-more text d e i s f p =
+    rw (add-one i, take-suc text i 0 s, ← add-one i)
+    (puts-then p (getD text i 0) (omega (arith, length-take-le i text (omega arith))))
 
 loop-holds : tie.Need-loop-holds Inv-loop μ-loop
 loop-holds c = (omega arith, (refl, record { answers = refl; leaves = refl }))
@@ -56,7 +59,9 @@ returns c =
     let at = c .before in
     let text = now (at .before .args .text) in
     let e : at .loop .i ≡ length text = omega arith in
-    subst (λ (t : List ℕ). Puts t 0 (now (at .before .args .out)) (at .loop .i) (at .loop .out)) (ap (λ (k : ℕ). take k text) e ∙ take-length text) (at .loop .inv .1 .1)
+    subst (λ (t : List ℕ). Puts t 0 (now (at .before .args .out)) (at .loop .i) (at .loop .out))
+    (ap (λ (k : ℕ). take k text) e ∙ take-length text)
+    (at .loop .inv .1 .1)
 
 pub put-text-spec : {M : Type 1} → statement M
 put-text-spec =

@@ -9,7 +9,7 @@ use Rattle.pgm.proofs.Places.{puts-length, puts-join}
 use Rattle.pgm.proofs.put_three.Statement.{statement}
 use Rattle.pgm.proofs.put_three.Tie as tie
 
--- a field of a number of 64 bits
+-- a field of a number of 64 bits has at most 21 bytes
 short : (n end : ℕ) → n < 2 ^ 64 → length (field n end) ≤ 21
 short n end h = omega (arith, field-long n end, word-short n h)
 

@@ -1,12 +1,13 @@
--- `read_header` reads "P5 ", two sides and the ending, and refuses at the first that is not there. Assumes nothing.
+-- `read_header` reads "P5 ", two sides and the ending, and answers Malformed at the first that is not there. Assumes nothing.
 use borrow.Author.Needs.{needs}
 use native.Mathlib.Omega.{arith}
 use denote.Ref.{now}
 use borrow.Author.Tests.{not-true, not-false}
 use Rattle.pgm.specs.Form.{magic, ending}
-use Rattle.pgm.proofs.Headers.{stands-as, side-as, no-magic, no-width, no-height, no-ending, headed}
+use Rattle.pgm.proofs.read_header.Proof.Headers.{stands-as, side-as, no-magic, no-width, no-height, no-ending, headed}
 use Rattle.pgm.proofs.read_header.Statement.{statement}
 use Rattle.pgm.proofs.read_header.Tie as tie
+mod Headers
 
 slice-aggregate-stands : tie.Need-slice-aggregate-stands
 slice-aggregate-stands c = search needs
@@ -83,7 +84,9 @@ add-t16 : tie.Need-add-t16
 add-t16 c =
     let height = c .before .before .before .before in
     let start = height .before .before .before .before .before .before .before .before .before .before .before in
-    let s = stands-as (now (start .args .input)) (height .height .given .0 .1 .0) ending (not-false (c .before .stands2 .result) (c .if2 .left)) (c .before .stands2 .ensures) .0 in
+    let l = now (start .args .input) in
+    let s =
+    stands-as l (height .height .given .0 .1 .0) ending (not-false (c .before .stands2 .result) (c .if2 .left)) (c .before .stands2 .ensures) .0 in
     omega (arith, start)
 
 returns-5 : tie.Need-returns-5

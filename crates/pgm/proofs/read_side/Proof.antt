@@ -1,12 +1,14 @@
--- `read_side` reads one or two digits and a space, and refuses where no side of legal form stands. Assumes nothing.
+-- `read_side` reads one or two digits and a space, and answers Malformed where no side stands. Assumes nothing.
 use borrow.Author.Needs.{needs}
 use native.Mathlib.Omega.{arith}
 use Prim.Native.Nat.{_/_, _%_, _<_}
 use mathlib.Core.Path.{sym, _∙_}
 use denote.Ref.{now}
-use Rattle.pgm.proofs.Sides.{no-side, one-is, two-read}
+use Rattle.pgm.proofs.read_side.Proof.Sides.{no-side, one-is, two-read}
 use Rattle.pgm.proofs.read_side.Statement.{statement}
 use Rattle.pgm.proofs.read_side.Tie as tie
+mod Bytes
+mod Sides
 
 digit-at-requires : tie.Need-digit-at-requires
 digit-at-requires c κs = search needs

@@ -5,9 +5,10 @@ use mathlib.Core.Path.{_≡_}
 use denote.Ref.{now}
 use lib.ListN.{length, getD}
 use borrow.Author.Count.{below-more}
-use Rattle.pgm.proofs.Texts.{too-short, differs, agrees}
+use Rattle.pgm.proofs.stands.Proof.Texts.{too-short, differs, agrees}
 use Rattle.pgm.proofs.stands.Statement.{statement}
 use Rattle.pgm.proofs.stands.Tie as tie
+mod Texts
 
 abbrev Inv-loop : tie.InvT-loop
 Inv-loop input at text i₀ i =

@@ -1,4 +1,4 @@
--- The arguments are counted up to their number. Assumes nothing.
+-- The loop counts the arguments up to their number. Assumes nothing.
 use Prim.Native.Nat.{_-_}
 use borrow.Author.Needs.{needs}
 use Rattle.pictures.proofs.main.Statement.{statement}

@@ -1,4 +1,4 @@
--- The tile counts reach the lent numbers, or stay. Assumes nothing.
+-- `built` stores the tile counts in the lent numbers, or leaves these. Assumes nothing.
 use borrow.Author.Needs.{needs}
 use Rattle.imgproc_c.proofs.answers.built.Statement.{statement}
 use Rattle.imgproc_c.proofs.answers.built.Tie as tie

@@ -1,4 +1,4 @@
--- The four counts reach the lent numbers, or stay. Assumes nothing.
+-- `read` stores the four counts in the lent numbers, or leaves these. Assumes nothing.
 use borrow.Author.Needs.{needs}
 use Rattle.imgproc_c.proofs.answers.read.Statement.{statement}
 use Rattle.imgproc_c.proofs.answers.read.Tie as tie

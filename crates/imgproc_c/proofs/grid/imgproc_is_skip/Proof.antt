@@ -1,4 +1,4 @@
--- The skip goes to the lent number, or the refusal to the answer. Assumes nothing.
+-- The export stores the skip in the lent number, or returns the number of its refusal. Assumes nothing.
 use borrow.Author.Needs.{needs}
 use mathlib.Core.Path.{ap}
 use Rattle.imgproc_c.specs.Exports.{asByte}

@@ -1,4 +1,4 @@
--- The threshold goes to the lent number, or the refusal to the answer. Assumes nothing.
+-- The export stores the threshold in the lent number, or returns the number of its refusal. Assumes nothing.
 use borrow.Author.Needs.{needs}
 use Rattle.imgproc_c.proofs.Exporting.{tells-as}
 use Rattle.imgproc_c.proofs.grid.imgproc_threshold_at.Statement.{statement}

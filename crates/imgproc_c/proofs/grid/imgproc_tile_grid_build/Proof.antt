@@ -1,7 +1,6 @@
--- The answer of the call, by number, and the tile counts. Assumes nothing.
+-- The export returns the number of the build's answer, and stores the tile counts. Assumes nothing.
 use borrow.Author.Needs.{needs}
-use denote.Ref.{now}
-use Rattle.imgproc_c.specs.Picture.{geometry}
+use mathlib.Core.Path.{refl}
 use Rattle.imgproc_c.proofs.GridNumbers.{builds}
 use Rattle.imgproc_c.proofs.grid.imgproc_tile_grid_build.Statement.{statement}
 use Rattle.imgproc_c.proofs.grid.imgproc_tile_grid_build.Tie as tie
@@ -30,8 +29,7 @@ returns c =
     let m = b .before .before .before .before in
     let o = m .before .before .before .before .before in
     let a = o .args in
-    builds (now (a .src)) (geometry (a .width) (a .height) (a .stride)) (now (a .workspace)) (now (a .thresholds)) (now (a .skips)) (a .tile-width) (a .tile-height) (a .neighborhood-radius)
-    (a .threshold-offset) (a .contrast-floor) (a .method) (a .k) (a .dynamic-range) (o .fits .threshold-offset) (m .method-of .ensures) (b .build .ensures) (c .built .ensures)
+    builds (a .method) (a .k) (a .dynamic-range) (o .fits .threshold-offset) refl (m .method-of .ensures) (b .build .ensures) (c .built .ensures)
 
 pub imgproc-tile-grid-build-spec : {M : Type 1} → statement M
 imgproc-tile-grid-build-spec =

@@ -1,4 +1,4 @@
--- `method_of` meets its contract. Assumes nothing.
+-- `method_of` gives the method of its number. Assumes nothing.
 use Prim.Native.Nat.{ℕ}
 use mathlib.Core.Path.{sym, ap}
 use borrow.Author.Needs.{needs}

@@ -1,4 +1,4 @@
--- The answer of the call, by number, and its count. Assumes nothing.
+-- The export returns the number of the call's answer, and stores its count. Assumes nothing.
 use borrow.Author.Needs.{needs}
 use Rattle.imgproc_c.proofs.Exporting.{exports}
 use Rattle.imgproc_c.proofs.morphology.imgproc_grayscale_dilate_into.Statement.{statement}

@@ -1,4 +1,4 @@
--- The pixel goes to the lent number, or its refusal to the answer. Assumes nothing.
+-- The export stores the pixel in the lent number, or returns the number of its refusal. Assumes nothing.
 use borrow.Author.Needs.{needs}
 use mathlib.Core.Path.{refl, sym, ap, _∙_}
 use Rattle.image.specs.Pixel.{pixelAnswer}

@@ -1,4 +1,4 @@
--- The row is packed as a picture of one row. Assumes nothing.
+-- The export packs the row as a picture of one row. Assumes nothing.
 use borrow.Author.Needs.{needs}
 use denote.Ref.{now}
 use Rattle.imgproc_c.specs.Picture.{geometry}
@@ -22,7 +22,8 @@ returns : tie.Need-returns
 returns c =
     let l = c .before .before .before in
     let a = l .before .before .before .args in
-    no-row (now (a .«data»)) (geometry (a .width) (a .height) (a .stride)) (a .y) (now (a .out)) (l .check-row .ensures) (c .before .enum-told2 .given .1) (c .layout-number .ensures)
+    no-row (now (a .«data»)) (geometry (a .width) (a .height) (a .stride)) (a .y) (now (a .out)) (l .check-row .ensures)
+    (c .before .enum-told2 .given .1) (c .layout-number .ensures)
 
 row-requires : tie.Need-row-requires
 row-requires c κs = search needs
@@ -43,7 +44,8 @@ returns-2 c =
     let t = r .before in
     let l = t .before .before in
     let a = l .before .before .before .args in
-    row-copied (now (a .«data»)) (geometry (a .width) (a .height) (a .stride)) (a .y) (now (a .out)) (l .check-row .ensures) (t .enum-told .given .1) (r .row .ensures .bytes) (p .pack .ensures) (c .copied-number .ensures)
+    row-copied (now (a .«data»)) (geometry (a .width) (a .height) (a .stride)) (a .y) (now (a .out)) (l .check-row .ensures)
+    (t .enum-told .given .1) (r .row .ensures .bytes) (p .pack .ensures) (c .copied-number .ensures)
 
 pub imgproc-row-spec : {M : Type 1} → statement M
 imgproc-row-spec =

@@ -1,4 +1,4 @@
--- The answer of the write, by number. Assumes nothing.
+-- The export returns the number of the write's answer. Assumes nothing.
 use borrow.Author.Needs.{needs}
 use mathlib.Core.Path.{refl}
 use denote.Ref.{now}
@@ -26,7 +26,8 @@ returns : tie.Need-returns
 returns c =
     let l = c .before .before .before .before in
     let a = l .before .before .before .args in
-    set-number (now (a .«data»)) (geometry (a .width) (a .height) (a .stride)) (a .x) (a .y) (a .value) (rw (c .enum-told .given .1) at (l .set .ensures)) refl
+    set-number (now (a .«data»)) (geometry (a .width) (a .height) (a .stride)) (a .x) (a .y) (a .value)
+    (rw (c .enum-told .given .1) at (l .set .ensures)) refl
 
 same-length-2 : tie.Need-same-length-2
 same-length-2 c = search needs
@@ -36,7 +37,8 @@ returns-2 c =
     let p = c .before .before in
     let l = p .before .before .before .before in
     let a = l .before .before .before .args in
-    set-number (now (a .«data»)) (geometry (a .width) (a .height) (a .stride)) (a .x) (a .y) (a .value) (rw (p .written .given .1) at (l .set .ensures)) (c .number .ensures)
+    set-number (now (a .«data»)) (geometry (a .width) (a .height) (a .stride)) (a .x) (a .y) (a .value)
+    (rw (p .written .given .1) at (l .set .ensures)) (c .number .ensures)
 
 pub imgproc-set-spec : {M : Type 1} → statement M
 imgproc-set-spec =

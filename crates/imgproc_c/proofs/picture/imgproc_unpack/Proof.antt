@@ -1,4 +1,4 @@
--- The answer of the copy, by number. Assumes nothing.
+-- The export returns the number of the copy's answer. Assumes nothing.
 use borrow.Author.Needs.{needs}
 use denote.Ref.{now}
 use Rattle.imgproc_c.specs.Picture.{geometry}

@@ -1,4 +1,4 @@
--- The number of the layout. Assumes nothing.
+-- The export returns the number of the layout. Assumes nothing.
 use borrow.Author.Needs.{needs}
 use mathlib.Core.Path.{ap, _∙_}
 use Rattle.image.specs.declared.Layout.{Layout}

@@ -1,6 +1,6 @@
--- The answer of the call, by number, and its four counts. Assumes nothing.
+-- The export returns the number of the reading's answer, and stores its four counts. Assumes nothing.
 use borrow.Author.Needs.{needs}
-use denote.Ref.{now}
+use mathlib.Core.Path.{refl}
 use Rattle.imgproc_c.proofs.ReadingNumbers.{reads}
 use Rattle.imgproc_c.proofs.reading.imgproc_reading.Statement.{statement}
 use Rattle.imgproc_c.proofs.reading.imgproc_reading.Tie as tie
@@ -29,7 +29,7 @@ returns c =
     let m = b .before .before .before .before in
     let o = m .before .before .before .before .before in
     let a = o .args in
-    reads (now (a .src)) _ (now (a .dst)) _ _ _ _ _ _ (a .threshold-offset) _ _ (now (a .bytes)) (now (a .words)) (a .method) (a .k) (a .dynamic-range) (o .fits .threshold-offset) (m .method-of .ensures) (b .reading .ensures) (c .read .ensures)
+    reads (a .method) (a .k) (a .dynamic-range) (o .fits .threshold-offset) refl (m .method-of .ensures) (b .reading .ensures) (c .read .ensures)
 
 pub imgproc-reading-spec : {M : Type 1} → statement M
 imgproc-reading-spec =

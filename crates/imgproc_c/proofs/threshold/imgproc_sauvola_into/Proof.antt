@@ -1,4 +1,4 @@
--- The answer of the call, by number. Assumes nothing.
+-- The export returns the number of the call's answer. Assumes nothing.
 use borrow.Author.Needs.{needs}
 use Rattle.imgproc_c.proofs.Exporting.{exports, tells-bare}
 use Rattle.imgproc_c.proofs.threshold.imgproc_sauvola_into.Statement.{statement}

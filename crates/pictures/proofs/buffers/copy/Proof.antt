@@ -1,4 +1,4 @@
--- No byte is copied past the end of either slice. Assumes nothing.
+-- The loop copies no byte past the end of either slice. Assumes nothing.
 use Prim.Native.Nat.{_-_}
 use lib.ListN.{length}
 use mathlib.Core.Path.{_≡_}

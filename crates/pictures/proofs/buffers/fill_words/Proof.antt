@@ -1,4 +1,4 @@
--- As many words are stored as the slice has. Assumes nothing.
+-- The loop stores as many u64s as the slice has. Assumes nothing.
 use Prim.Native.Nat.{_-_}
 use lib.ListN.{length}
 use mathlib.Core.Path.{_≡_}

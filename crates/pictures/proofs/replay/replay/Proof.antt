@@ -1,4 +1,4 @@
--- A turn is taken from as many as the text has bytes. Assumes nothing.
+-- The loop takes at most as many turns as the text has bytes. Assumes nothing.
 use borrow.Author.Needs.{needs}
 use Rattle.pictures.proofs.replay.replay.Statement.{statement}
 use Rattle.pictures.proofs.replay.replay.Tie as tie

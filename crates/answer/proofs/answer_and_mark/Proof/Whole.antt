@@ -1,4 +1,4 @@
--- The answer with the program's buffers is the program's line, and its destination has the program's marks. Assumes nothing.
+-- An answer with buffers that are long enough for any picture is the program's line, and its destination has the program's marks. Assumes nothing.
 use Prim.Native.Nat.{ℕ, _≤_}
 use native.Mathlib.Nat.{pos-of-ne-zero}
 use native.Mathlib.Omega.{arith}
@@ -10,8 +10,8 @@ use lib.ListN.{length}
 use borrow.Author.Tests.{eqb-false}
 use Rattle.image.specs.declared.LumaError.the-variants.{EmptyDimensions}
 use Rattle.image.specs.LayoutLaws.{neither}
-use Rattle.image.specs.Plane.{packed, painted}
-use Rattle.image.specs.PlaneLaws.{packed-again}
+use Rattle.image.specs.Plane.{picture, paintedOn}
+use Rattle.image.specs.Views.{picture-again}
 use Rattle.imgproc.specs.declared.Check.{Check}
 use Rattle.imgproc.specs.declared.Check.the-variants.{Accepted, Refused}
 use Rattle.imgproc.specs.declared.ImgProcError.the-variants.{Image}
@@ -35,31 +35,34 @@ module _ (input : List ℕ) {lent left : Buffers} {n : ℕ}
     Answer : Type 0
     Answer = AnswersAndMarks input (lent .dst) (lent .out) n (left .dst) (left .out)
 
-    -- of a picture, once the check and the pixels are known
-    picture : (w h : ℕ) (f : Form input w h) (check : Check) → first (readingConditions (lentTo w h (f .pixels) lent settings)) ≡ check →
-        answerOf w h (answerBy check (readingOf settings w h (packed (f .pixels) w h w))) ≡ pictureLine w h (f .pixels) →
-        leftBy check (painted (marked settings w h (packed (f .pixels) w h w)) w h w (lent .dst)) (lent .dst)
-        ≡ pictureMarks w h (f .pixels) (lent .dst) →
+    -- the input is a picture, and it is known what the reading's check says and that this gives the program's line and marks
+    checked : (w h : ℕ) (f : Form input w h) (check : Check) → first (readingConditions (lentTo w h (f .pixels) lent settings)) ≡ check →
+        let read = picture (f .pixels) (tight w h) in
+        answerOf w h (answerBy check (readingOf settings w h read)) ≡ pictureLine w h (f .pixels) →
+        leftBy check (paintedOn (lent .dst) (tight w h) (marked settings w h read)) (lent .dst) ≡ pictureMarks w h (f .pixels) (lent .dst) →
         Answer
     unfolding Answer
-    picture w h f check c p m =
+    checked w h f check c p m =
         let x = a .picture w h f in
-        let counts = readingOf settings w h (packed (f .pixels) w h w) in
-        let marks = painted (marked settings w h (packed (f .pixels) w h w)) w h w (lent .dst) in
+        let counts = readingOf settings w h (picture (f .pixels) (tight w h)) in
+        let marks = paintedOn (lent .dst) (tight w h) (marked settings w h (picture (f .pixels) (tight w h))) in
         let text = ap (λ (k : Check). answerOf w h (answerBy k counts)) c ∙ p ∙ sym (line-picture input w h f) in
         record {
           writes = subst (λ (t : List ℕ). Writes t (lent .out) n (left .out)) text (x .writes);
           marks = x .reads .leaves ∙ ap (λ (k : Check). leftBy k marks (lent .dst)) c ∙ m ∙ sym (marks-picture input w h f (lent .dst));
         }
 
+    -- a picture with a zero side is refused, and any other is read
     either : (w h : ℕ) (f : Form input w h) (e : Bool) → empty w h ≡ e → Answer
-    either w h f true x = picture w h f (Refused (Image EmptyDimensions)) (empty-refused w h _ _ (readingSettings settings then readingRoom (tight w h) settings (length (lent .bytes)) (length (lent .words))) x) (rw x) (rw x)
+    either w h f true x =
+        let rest = readingSettings settings then readingRoom (tight w h) settings (length (lent .bytes)) (length (lent .words)) in
+        checked w h f (Refused (Image EmptyDimensions)) (empty-refused w h _ _ rest x) (rw x) (rw x)
     either w h f false x =
         let s = neither (eqb w 0) (eqb h 0) x in
         let W = pos-of-ne-zero (eqb-false w 0 (s .0)) in
         let H = pos-of-ne-zero (eqb-false h 0 (s .1)) in
-        let k : packed (f .pixels) w h w ≡ f .pixels = packed-again (f .pixels) w h W (f .counted) in
-        picture w h f Accepted (room-enough w h W H (f .wide) (f .high) _ _ _ _ (omega (arith, f .counted)) d b q) (rw (k, x)) (rw (k, x))
+        let k : picture (f .pixels) (tight w h) ≡ f .pixels = picture-again (f .pixels) (tight w h) W refl (f .counted) in
+        checked w h f Accepted (room-enough w h W H (f .wide) (f .high) _ _ _ _ (omega (arith, f .counted)) d b q) (rw (k, x)) (rw (k, x))
 
     pub whole : AnswersAndMarks input (lent .dst) (lent .out) n (left .dst) (left .out)
     unfolding Answer

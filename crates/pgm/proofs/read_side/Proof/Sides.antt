@@ -10,9 +10,9 @@ use Rattle.pgm.specs.Decimal.{digit, decimal}
 use Rattle.pgm.specs.DecimalLaws.{small-or, decimal-one, decimal-two}
 use Rattle.pgm.specs.Form.{sideLimit}
 use Rattle.pgm.specs.Steps.{ReadsSide}
-use Rattle.pgm.proofs.Bytes.{inside, from, stands-at, goes-on}
+use Rattle.pgm.proofs.read_side.Proof.Bytes.{inside, from, stands-at, goes-on}
 
--- places as the code counts them
+-- the code counts places from `at`: the bytes after the first are at + 1 and at + 2
 next-but-one : (at : ℕ) → at + 1 + 1 ≡ at + 2
 next-but-one at = omega arith
 
@@ -32,7 +32,7 @@ pub record Two (l : List ℕ) (at n : ℕ) : Type 0 where
   pub space : getD l (at + 2) 256 ≡ 32
 
 module _ (l : List ℕ) (at : ℕ) where
-  -- the bytes that a side is written with
+  -- a side that stands there has the bytes of one digit or of two
   pub told : (n : ℕ) (rest : List ℕ) → n ≤ sideLimit → drop at l ≡ decimal n ++ (32 ∷ rest) → ((n < 10) × One l at n) ⊎ Two l at n
   told n rest N e = ⊎-elim one two (small-or n)
     where
@@ -46,9 +46,14 @@ module _ (l : List ℕ) (at : ℕ) where
           let f : drop at l ≡ digit (n / 10) ∷ digit (n % 10) ∷ 32 ∷ rest = e ∙ rw (decimal-two n k (omega arith)) in
           let g = goes-on l at (digit (n / 10)) f in
           let h : drop (at + 2) l ≡ 32 ∷ rest = ap (λ (k : ℕ). drop k l) (sym (next-but-one at)) ∙ goes-on l (at + 1) (digit (n % 10)) g in
-          inr (record { large = k; first = stands-at l at (digit (n / 10)) f; second = stands-at l (at + 1) (digit (n % 10)) g; space = stands-at l (at + 2) 32 h })
+          inr (record {
+            large = k;
+            first = stands-at l at (digit (n / 10)) f;
+            second = stands-at l (at + 1) (digit (n % 10)) g;
+            space = stands-at l (at + 2) 32 h;
+          })
 
-  -- a digit and a space
+  -- the bytes of one digit are a side that a space ends
   pub one-is : (d : ℕ) → d < 10 → One l at d → ReadsSide l at (Number d (at + 2))
   one-is d s o =
       let i : at + 1 < length l = inside l (at + 1) 32 (o .space) (omega arith) in (
@@ -61,7 +66,7 @@ module _ (l : List ℕ) (at : ℕ) where
         ),
       )
 
-  -- two digits and a space
+  -- and so are those of two digits
   pub two-is : (n : ℕ) → n ≤ sideLimit → Two l at n → ReadsSide l at (Number n (at + 3))
   two-is n N o =
       let i : at + 2 < length l = inside l (at + 2) 32 (o .space) (omega arith) in (
@@ -77,11 +82,11 @@ module _ (l : List ℕ) (at : ℕ) where
         ),
       )
 
-  -- no side stands where the bytes are neither
+  -- no side stands there where the bytes are neither
   pub no-side : ((n : ℕ) → n < 10 → One l at n → ⊥) → ((n : ℕ) → n ≤ sideLimit → Two l at n → ⊥) → ReadsSide l at Malformed
   no-side one two n N rest e = ⊎-elim (λ o. one n (o .0) (o .1)) (two n N) (told n rest N e)
 
-  -- two digits that were read, the first of them not 0, and a space
+  -- two digits that were read, the first of them not 0, and a space are a side
   pub two-read : (a b : ℕ) → 0 < a → a < 10 → b < 10 → a * 10 + b ≤ sideLimit →
       getD l at 256 ≡ digit a → getD l (at + 1) 256 ≡ digit b → getD l (at + 2) 256 ≡ 32 → ReadsSide l at (Number (a * 10 + b) (at + 3))
   two-read a b p s t N f g h =

@@ -1,18 +1,18 @@
--- Bytes at a place of the input, where 256 stands for none, and the input from there on. Assumes nothing.
-use Prim.Native.Nat.{ℕ, zero, suc, _+_, _<_}
-use native.Mathlib.Nat.{add-zero, not-suc-le-zero, le-of-suc-le-suc}
+-- Laws of the byte at a place of the input, where 256 stands for none, and of the input from there on. Assumes nothing.
+use Prim.Native.Nat.{ℕ, _+_, _<_}
+use native.Mathlib.Nat.{add-zero}
 use native.Mathlib.Numerals.{add-one}
 use native.Mathlib.Omega.{arith}
 use mathlib.Core.Path.{_≡_, refl, sym, ap, _∙_}
 use mathlib.Core.Bool.{Bool, true, false}
-use mathlib.Core.List.{List, [], _∷_}
+use mathlib.Core.List.{List, _∷_}
 use lib.Dec.{ltb}
 use lib.ListN.{length, getD, drop, List·getD-eq-default}
 use lib.Seq.{drop-cons, getD-drop, drop-drop}
 use borrow.Author.Tests.{ltb-true, ltb-false}
 
 module _ (l : List ℕ) (i b : ℕ) where
-  -- where a byte stands, the input goes on
+  -- a place where a byte stands lies in the input
   pub inside : getD l i 256 ≡ b → b < 256 → i < length l
   inside e s = go (ltb i (length l)) refl
     where
@@ -31,9 +31,3 @@ module _ (l : List ℕ) (i b : ℕ) where
   -- and what follows it stands after it
   pub goes-on : {rest : List ℕ} → drop i l ≡ b ∷ rest → drop (i + 1) l ≡ rest
   goes-on e = sym (drop-drop 1 i l) ∙ ap (drop 1) e
-
--- inside the input it does not matter what stands for none
-pub any-default : (l : List ℕ) (i : ℕ) → i < length l → getD l i 0 ≡ getD l i 256
-any-default [] i h = absurd (not-suc-le-zero h)
-any-default (x ∷ l) zero h = refl
-any-default (x ∷ l) (suc i) h = any-default l i (le-of-suc-le-suc h)

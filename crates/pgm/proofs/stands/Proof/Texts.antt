@@ -25,5 +25,9 @@ module _ (l : List ℕ) (at : ℕ) (text : List ℕ) where
       ext-getD 0 (take (length text) (drop at l)) text n
       (λ k t.
       let u : k < length text = omega arith in
-      getD-take (length text) (drop at l) k 0 u ∙ getD-drop at l k 0 ∙ each k u) in
-      (f, sym (take-append-drop (length text) (drop at l)) ∙ ap (λ (t : List ℕ). t ++ drop (length text) (drop at l)) s ∙ ap (λ (t : List ℕ). text ++ t) (drop-drop (length text) at l))
+      getD-take (length text) (drop at l) k 0 u ∙ getD-drop at l k 0 ∙ each k u) in (
+        f,
+        sym (take-append-drop (length text) (drop at l))
+            ∙ ap (λ (t : List ℕ). t ++ drop (length text) (drop at l)) s
+            ∙ ap (λ (t : List ℕ). text ++ t) (drop-drop (length text) at l),
+      )

@@ -1,29 +1,24 @@
--- One law for each way out of `read_header` and of `parse`: what was read so far, and what it says of any header there could be. Assumes nothing.
-use Prim.Native.Nat.{ℕ, _+_, _-_, _*_, _≤_}
-use native.Mathlib.Nat.{mul-le-mul}
+-- One law for each way out of `read_header`: what was read so far, and what it says of any header with which the input could begin. Assumes nothing.
+use Prim.Native.Nat.{ℕ, _+_, _≤_}
 use native.Mathlib.Omega.{arith}
-use mathlib.Core.Path.{_≡_, sym, ap, ap₂, subst, _∙_}
+use mathlib.Core.Path.{_≡_, sym, ap, subst, _∙_}
 use mathlib.Core.Bool.{Bool, true, false}
 use mathlib.Core.List.{List, _∷_, _++_}
 use lib.ListN.{length, drop, length-append, length-drop}
-use Rattle.pgm.specs.declared.Parsed.{Parsed}
 use Rattle.pgm.specs.declared.Side.{Side}
 use Rattle.pgm.specs.declared.Parsed.the-variants.{Picture, Malformed}
 use Rattle.pgm.specs.declared.Side.the-variants.{Number, Malformed as Side·Malformed}
 use Rattle.pgm.specs.Decimal.{decimal}
-use Rattle.pgm.specs.Form.{sideLimit, magic, ending, header, Answers}
-use Rattle.pgm.specs.FormLaws.{same-side, same-header, header-parts}
-use Rattle.pgm.specs.Steps.{Stands, ReadsSide, Headed, ReadsHeader}
+use Rattle.pgm.specs.Form.{sideLimit, magic, ending, header}
+use Rattle.pgm.specs.FormLaws.{same-side, header-parts}
+use Rattle.pgm.specs.Steps.{Stands, ReadsSide, ReadsHeader}
 
--- what was answered, said of the answer that a branch tells
+-- what a call promised of its answer holds of the answer that a branch knows
 pub stands-as : (l : List ℕ) (at : ℕ) (text : List ℕ) {r s : Bool} → r ≡ s → Stands l at text r → Stands l at text s
 stands-as l at text e h = subst (λ (s : Bool). Stands l at text s) e h
 
 pub side-as : (l : List ℕ) (at : ℕ) {r s : Side} → r ≡ s → ReadsSide l at r → ReadsSide l at s
 side-as l at e h = subst (λ (s : Side). ReadsSide l at s) e h
-
-pub header-as : (l : List ℕ) {r s : Parsed} → r ≡ s → ReadsHeader l r → ReadsHeader l s
-header-as l e h = subst (λ (s : Parsed). ReadsHeader l s) e h
 
 -- the bytes from the height on, and from the width on
 abbrev fromHeight : ℕ → List ℕ → List ℕ
@@ -33,7 +28,7 @@ abbrev fromWidth : ℕ → ℕ → List ℕ → List ℕ
 fromWidth w h rest = decimal w ++ (32 ∷ fromHeight h rest)
 
 module _ (l : List ℕ) where
-  -- another beginning than "P5 "
+  -- the input begins otherwise than with "P5 "
   pub no-magic : Stands l 0 magic false → ReadsHeader l Malformed
   no-magic s w h ww hh rest e = s (fromWidth w h rest) (e ∙ header-parts w h rest)
 
@@ -41,31 +36,31 @@ module _ (l : List ℕ) where
   after-magic : (w h : ℕ) (rest : List ℕ) → l ≡ header w h ++ rest → drop 3 l ≡ fromWidth w h rest
   after-magic w h rest e = ap (drop 3) (e ∙ header-parts w h rest)
 
-  -- no width
+  -- no width follows
   pub no-width : ReadsSide l 3 Side·Malformed → ReadsHeader l Malformed
   no-width s w h ww hh rest e = s w ww (fromHeight h rest) (after-magic w h rest e)
 
   module _ (w next : ℕ) (first : ReadsSide l 3 (Number w next)) where
-    -- what follows the width
+    -- what follows the width in an input with a header
     after-width : (v h : ℕ) (rest : List ℕ) → v ≤ sideLimit → l ≡ header v h ++ rest → drop next l ≡ fromHeight h rest
     after-width v h rest vv e =
         same-side w v (drop next l) (fromHeight h rest) (omega (arith, first .0)) (omega arith) (sym (first .1 .1) ∙ after-magic v h rest e) .1
 
-    -- no height
+    -- no height follows the width
     pub no-height : ReadsSide l next Side·Malformed → ReadsHeader l Malformed
     no-height s v h vv hh rest e = s h hh (ending ++ rest) (after-width v h rest vv e)
 
     module _ (h last : ℕ) (second : ReadsSide l next (Number h last)) where
-      -- what follows the height
+      -- what follows the height in an input with a header
       after-height : (v g : ℕ) (rest : List ℕ) → v ≤ sideLimit → g ≤ sideLimit → l ≡ header v g ++ rest → drop last l ≡ ending ++ rest
       after-height v g rest vv gg e =
           same-side h g (drop last l) (ending ++ rest) (omega (arith, second .0)) (omega arith) (sym (second .1 .1) ∙ after-width v g rest vv e) .1
 
-      -- another ending than "255" and a line feed
+      -- "255" and a line feed do not follow the height
       pub no-ending : Stands l last ending false → ReadsHeader l Malformed
       no-ending s v g vv gg rest e = s rest (after-height v g rest vv gg e)
 
-      -- all of it is there
+      -- the whole header stands there
       pub headed : Stands l 0 magic true → Stands l last ending true → ReadsHeader l (Picture w h (last + 4))
       headed m f =
           let rest = drop (last + 4) l in
@@ -81,27 +76,3 @@ module _ (l : List ℕ) where
             begins = b;
             ends = omega (arith, f .0, ap length b ∙ length-append (header w h) rest, length-drop (last + 4) l);
           }
-
-  -- no picture without a header
-  pub no-header : ReadsHeader l Malformed → Answers l Malformed
-  no-header r w h f = r w h (f .wide) (f .high) (f .pixels) (f .whole)
-
-  module _ (w h at : ℕ) (r : Headed l w h at) where
-    -- the header lies in the input
-    pub header-inside : at ≤ length l
-    header-inside = omega (arith, r .ends, ap length (r .begins) ∙ length-append (header w h) (drop at l))
-
-    -- so few pixels fit any number of the code
-    pub pixels-few : w * h ≤ sideLimit * sideLimit
-    pixels-few = mul-le-mul (r .wide) (r .high)
-
-    -- a byte too few, or too many
-    pub miscounted : (length l - at ≡ w * h → ⊥) → Answers l Malformed
-    miscounted n v g f =
-        let s = same-header w h v g (drop at l) (f .pixels) (r .wide) (r .high) (f .wide) (f .high) (sym (r .begins) ∙ f .whole) in
-        n (sym (length-drop at l) ∙ ap length (s .1 .1) ∙ f .counted ∙ sym (ap₂ _*_ (s .0) (s .1 .0)))
-
-    -- a byte for each pixel
-    pub formed : length l - at ≡ w * h → Answers l (Picture w h at)
-    formed n =
-        (record { wide = r .wide; high = r .high; pixels = drop at l; counted = length-drop at l ∙ n; whole = r .begins }, r .ends)

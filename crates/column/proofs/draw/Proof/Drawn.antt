@@ -1,4 +1,4 @@
--- The line and then the rows are what the program writes. Assumes nothing.
+-- One law for each way out of `draw`: the line, and the rows after it where there are any, are what the program writes. Assumes nothing.
 use Prim.Native.Nat.{ℕ, _+_, _*_, _≤_, _<_}
 use native.Mathlib.Nat.{mul-le-mul}
 use native.Mathlib.Omega.{arith}
@@ -9,9 +9,10 @@ use lib.Dec.{eqb}
 use lib.ListN.{length, take, drop, length-append, take-append-drop}
 use lib.Seq.{length-take-le, take-at, drop-append-le, drop-append-add, drop-drop}
 use borrow.Author.Tests.{eq-eqb, ne-eqb, eqb-false}
-use Rattle.image.specs.Plane.{pixel, painted, overwritten}
+use Rattle.image.specs.Plane.{pixel, paintedOn, overwritten}
 use Rattle.image.specs.PlaneLaws.{in-plane, pixel-plane, plane-same, length-plane}
-use Rattle.image.specs.PaintLaws.{length-painted, painted-pixel}
+use Rattle.image.specs.PaintLaws.{painted-pixel}
+use Rattle.image.specs.Views.{length-paintedOn}
 use Rattle.imgproc.specs.declared.reading.judging.Judgement.{Judgement}
 use Rattle.imgproc.specs.declared.reading.judging.Judgement.the-variants.{Dark, Light, Skipped}
 use Rattle.imgproc.specs.Reading.{judged, byteOf, marked}
@@ -19,20 +20,22 @@ use Rattle.pgm.specs.declared.Parsed.{Parsed}
 use Rattle.pgm.specs.declared.Parsed.the-variants.{Picture}
 use Rattle.pgm.specs.Form.{sideLimit, Answers}
 use Rattle.pgm.specs.Line.{lineRoom}
-use Rattle.answer.specs.Answer.{settings}
+use Rattle.answer.specs.Answer.{settings, tight}
 use Rattle.answer.specs.Program.{empty, programLine, mostPixels, Prints, AnswersAndMarks}
 use Rattle.answer.specs.ProgramLaws.{marks-by, printed}
-use Rattle.column.specs.Drawing.{markOf, inkOf, rowByte, rowsOf, rowsBy, programRows, programDrawing, drawingRoom, Room, DrawsRows}
+use Rattle.column.specs.Drawing.{markOf, rowByte, rowsOf, rowsBy, programRows, programDrawing, drawingRoom}
 use Rattle.column.specs.DrawingLaws.{rows-by}
+use Rattle.column.specs.Steps.{inkOf, Room, DrawsRows}
 
--- the mark of a judgement's byte
+-- a judgement's byte is drawn as the judgement's mark
 ink-mark : (j : Judgement) → inkOf (byteOf (settings .sauvola) j) ≡ markOf j
 ink-mark Dark = refl
 ink-mark Light = refl
 ink-mark Skipped = refl
 
--- a drawing of two parts
+-- a drawing of two parts, a text and rows
 module _ (text rows out : List ℕ) where
+  -- the rows are written right after the text
   joined : {n : ℕ} (d : List ℕ) → n ≡ length text → d ≡ text ++ drop (length text) out → Prints (text ++ rows) out (n + length rows) (overwritten n rows d)
   joined {n} d e f = record {
     answers = ap (λ (k : ℕ). k + length rows) e ∙ sym (length-append text rows);
@@ -46,6 +49,7 @@ module _ (text rows out : List ℕ) where
         ∙ ap (λ (k : ℕ). (text ++ rows) ++ drop k out) (sym (length-append text rows));
   }
 
+  -- there are no rows
   alone : {n : ℕ} (d : List ℕ) → rows ≡ [] → n ≡ length text → d ≡ text ++ drop (length text) out → Prints (text ++ rows) out n d
   alone {n} d z e f =
       let t : text ++ rows ≡ text = ap (λ (r : List ℕ). text ++ r) z ∙ append-nil text in
@@ -58,28 +62,38 @@ pub record Lined (input out dst part dst′ : List ℕ) (n : ℕ) : Type 0 where
   pub same : length part ≡ length (take lineRoom out)
   pub answers : AnswersAndMarks input dst (take lineRoom out) n dst′ part
 
-pub lined : {input out dst part dst′ : List ℕ} {n : ℕ} → drawingRoom ≤ length out → length dst ≡ mostPixels → length part ≡ length (take lineRoom out) →
-    AnswersAndMarks input dst (take lineRoom out) n dst′ part → Lined input out dst part dst′ n
+pub lined :
+    {input out dst part dst′ : List ℕ} {n : ℕ}
+    → drawingRoom ≤ length out
+    → length dst ≡ mostPixels
+    → length part ≡ length (take lineRoom out)
+    → AnswersAndMarks input dst (take lineRoom out) n dst′ part
+    → Lined input out dst part dst′ n
 lined room pixels same answers = record { room = room; pixels = pixels; same = same; answers = answers }
 
 module _ {input out dst part dst′ : List ℕ} {n : ℕ} (k : Lined input out dst part dst′ n) where
   front : length (take lineRoom out) ≡ lineRoom
   front = length-take-le lineRoom out (omega (arith, k .room))
 
+  -- the line stands at the start of its part
   line : Prints (programLine input) (take lineRoom out) n part
   line = printed (programLine input) (take lineRoom out) part (omega (arith, front)) (k .answers .writes)
 
   -- the line fits its part
   short : length (programLine input) ≤ lineRoom
-  short = omega (arith, k .same, front, ap length (line .leaves) ∙ length-append (programLine input) (drop (length (programLine input)) (take lineRoom out)))
+  short =
+      let text = programLine input in
+      omega (arith, k .same, front, ap length (line .leaves) ∙ length-append text (drop (length text) (take lineRoom out)))
 
+  -- so it stands at the start of the whole buffer, the rest of which is as it was
   begins : part ++ drop lineRoom out ≡ programLine input ++ drop (length (programLine input)) out
   begins =
       let t = programLine input in
       ap (λ (l : List ℕ). l ++ drop lineRoom out) (line .leaves)
       ∙ append-assoc t (drop (length t) (take lineRoom out)) (drop lineRoom out)
       ∙ ap (λ (l : List ℕ). t ++ l)
-      (sym (drop-append-le (length t) (take lineRoom out) (drop lineRoom out) (omega (arith, front, short))) ∙ ap (drop (length t)) (take-append-drop lineRoom out))
+      (sym (drop-append-le (length t) (take lineRoom out) (drop lineRoom out) (omega (arith, front, short)))
+      ∙ ap (drop (length t)) (take-append-drop lineRoom out))
 
   length-after : length (part ++ drop lineRoom out) ≡ length out
   length-after =
@@ -92,29 +106,32 @@ module _ {input out dst part dst′ : List ℕ} {n : ℕ} (k : Lined input out d
         front,
       )
 
-  -- nothing is drawn
+  -- there are no rows: nothing more is drawn
   pub undrawn : (r : Parsed) → Answers input r → rowsBy r input ≡ [] → Prints (programDrawing input) out n (part ++ drop lineRoom out)
   undrawn r a z = alone (programLine input) (programRows input) out (part ++ drop lineRoom out) (rows-by input r a ∙ z) (line .answers) begins
 
+  -- because the width is 0
   pub undrawn-wide : (w h at : ℕ) → Answers input (Picture w h at) → w ≡ 0 → Prints (programDrawing input) out n (part ++ drop lineRoom out)
   undrawn-wide w h at a z = undrawn (Picture w h at) a (rw (eq-eqb w 0 z))
 
+  -- or the height
   pub undrawn-high : (w h at : ℕ) → Answers input (Picture w h at) → (w ≡ 0 → ⊥) → h ≡ 0 → Prints (programDrawing input) out n (part ++ drop lineRoom out)
   undrawn-high w h at a W z = undrawn (Picture w h at) a (rw (ne-eqb w 0 W, eq-eqb h 0 z))
 
-  -- the rows of a picture
+  -- the rows of a picture with no zero side
   module _ (w h at : ℕ) (a : Answers input (Picture w h at)) (W : w ≡ 0 → ⊥) (H : h ≡ 0 → ⊥) where
     full : empty w h ≡ false
     full = rw (ne-eqb w 0 W, ne-eqb h 0 H)
 
-    left-marks : dst′ ≡ painted (marked settings w h (drop at input)) w h w dst
+    -- the destination has the reading's marks in its rows
+    left-marks : dst′ ≡ paintedOn dst (tight w h) (marked settings w h (drop at input))
     left-marks =
         k .answers .marks
         ∙ marks-by input (Picture w h at) a dst
-        ∙ ap (λ (b : Bool). cond b dst (painted (marked settings w h (drop at input)) w h w dst)) full
+        ∙ ap (λ (b : Bool). cond b dst (paintedOn dst (tight w h) (marked settings w h (drop at input)))) full
 
     pub length-marks : length dst′ ≡ mostPixels
-    length-marks = ap length left-marks ∙ length-painted (marked settings w h (drop at input)) w h w dst ∙ k .pixels
+    length-marks = ap length left-marks ∙ length-paintedOn dst (tight w h) (marked settings w h (drop at input)) ∙ k .pixels
 
     area : w * h ≤ mostPixels
     area = mul-le-mul (a .0 .wide) (a .0 .high)
@@ -122,7 +139,7 @@ module _ {input out dst part dst′ : List ℕ} {n : ℕ} (k : Lined input out d
     judgement : ℕ → ℕ → Judgement
     judgement = judged settings w h (drop at input)
 
-    -- a pixel of the destination is the byte of its judgement, and so is each byte of the rows
+    -- a pixel of the destination is the byte of its judgement
     pixel-is : (x y : ℕ) → x < w → y < h → pixel dst′ w x y ≡ byteOf (settings .sauvola) (judgement x y)
     unfolding marked judgement
     pixel-is x y X Y =
@@ -130,6 +147,7 @@ module _ {input out dst part dst′ : List ℕ} {n : ℕ} (k : Lined input out d
         ∙ painted-pixel (marked settings w h (drop at input)) w h w dst x y X Y (omega arith) (omega (arith, k .pixels, area, in-plane w h x y X Y))
         ∙ pixel-plane w h (λ x y. byteOf (settings .sauvola) (judgement x y)) x y X Y
 
+    -- so each byte of its rows is drawn as the program draws it
     byte-is : (x y : ℕ) → x < w + 1 → y < h → rowByte (λ x y. inkOf (pixel dst′ w x y)) w x y ≡ rowByte (λ x y. markOf (judgement x y)) w x y
     byte-is x y X Y = go (eqb x w) refl
       where
@@ -139,6 +157,7 @@ module _ {input out dst part dst′ : List ℕ} {n : ℕ} (k : Lined input out d
             let d : x ≡ w → ⊥ = eqb-false x w e in
             ap inkOf (pixel-is x y (omega arith) Y) ∙ ink-mark (judgement x y)
 
+    -- and so are its rows
     rows-same : programRows input ≡ rowsOf w h (λ x y. inkOf (pixel dst′ w x y))
     unfolding judgement
     rows-same =
@@ -146,6 +165,7 @@ module _ {input out dst part dst′ : List ℕ} {n : ℕ} (k : Lined input out d
         ∙ ap (λ (b : Bool). cond b [] (rowsOf w h (λ x y. markOf (judgement x y)))) full
         ∙ sym (plane-same (w + 1) h (rowByte (λ x y. inkOf (pixel dst′ w x y)) w) (rowByte (λ x y. markOf (judgement x y)) w) (omega arith) byte-is)
 
+    -- there is room for them
     pub room-rows : Room dst′ w h (part ++ drop lineRoom out) n
     room-rows = record {
       small = omega (arith, a .0 .wide);
@@ -156,6 +176,7 @@ module _ {input out dst part dst′ : List ℕ} {n : ℕ} (k : Lined input out d
         most : (w + 1) * h ≤ (sideLimit + 1) * sideLimit
         most = mul-le-mul {n₁ = w + 1} {m₁ = h} {n₂ = sideLimit + 1} {m₂ = sideLimit} (omega (arith, a .0 .wide)) (a .0 .high)
 
+    -- the line and the rows are the program's drawing
     pub drawn : {r : ℕ} (out′ : List ℕ) → DrawsRows dst′ w h (part ++ drop lineRoom out) n r out′ → Prints (programDrawing input) out r out′
     drawn {r} out′ x =
         let rows = rowsOf w h (λ x y. inkOf (pixel dst′ w x y)) in

@@ -10,10 +10,12 @@ use Rattle.image.specs.PlaneLaws.{getD-part, in-plane}
 use Rattle.image.specs.FillLaws.{row-in-plane, lent-row}
 
 module _ (ws : List ℕ) (at w h : ℕ) (room : at + w * h ≤ length ws) (y : ℕ) (t : y < h) where
+  -- it lies in the workspace
   pub from-fits : at + y * w + w ≤ length ws
   from-fits = omega (arith, row-in-plane w h y t)
 
   module _ {r : List ℕ} (e : r ≡ part (at + y * w) (at + y * w + w - (at + y * w)) ws) where
+    -- the part that is lent for it has the width, and its bytes are the plane's pixels
     pub from-long : length r ≡ w
     from-long = ap length e ∙ lent-row (at + y * w) w ws from-fits
 

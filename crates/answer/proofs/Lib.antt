@@ -1,3 +1,0 @@
--- The laws that the proofs of this crate share.
-pub mod Ways
-pub mod Whole

@@ -1,3 +1,0 @@
--- The laws that the proofs of this crate share.
-pub mod Rows
-pub mod Drawn
