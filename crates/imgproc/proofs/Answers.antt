@@ -31,7 +31,9 @@ in-range config p =
       range-some = pos-of-ne-zero (eqb-false (config .«dynamic_range») 0 (two .1));
     }
 
-pub room-for : (config : SauvolaConfig) (g : Geometry) (room : ℕ) → first (settingsAndRoom config g room) ≡ Accepted → InRange config × (tableEntries (g .width) (g .height) ≤ room)
+pub room-for : (config : SauvolaConfig) (g : Geometry) (room : ℕ)
+    → first (settingsAndRoom config g room) ≡ Accepted
+    → InRange config × (tableEntries (g .width) (g .height) ≤ room)
 room-for config g room p =
     let short = ltb room (tableEntries (g .width) (g .height)) in
     let both = both-accepted (sauvolaSettings config) (refusedIf short WorkspaceTooSmall) p in

@@ -1,4 +1,5 @@
--- The ways out of a call with two pictures, one law each: the source's layout, the destination's, the two sizes, and what is checked after them. Assumes nothing.
+-- The ways out of a call with two pictures, one law each: the source's layout, the destination's, the two sizes, and what is checked after them.
+-- Assumes nothing.
 use Prim.Native.Nat.{ℕ}
 use mathlib.Core.Path.{_≡_, sym, ap, _∙_, subst}
 use mathlib.Core.Bool.{not, false, _&&_}
@@ -82,17 +83,19 @@ module _ (a : ℕ) (s : Geometry) (b : ℕ) (t : Geometry) (rest : Conditions) w
 
 -- ---- the ways out, of what the code knows there: `search` finds the premises
 module _ {a : ℕ} {s : Geometry} {b : ℕ} {t : Geometry} {rest : Geometry → Conditions} {l : Layout} (is : l ≡ layoutOf a s) where
-  pub source-turned : {e r : LumaError} → l ≡ Invalid e → r ≡ refusalOf l → Comes a s b t rest (Refused (Image r))
-  source-turned i q = record { is = rw (q ∙ ap refusalOf i) (source-refused a s b t (rest s) (sym is ∙ i)) }
+  pub by-source : {e r : LumaError} → l ≡ Invalid e → r ≡ refusalOf l → Comes a s b t rest (Refused (Image r))
+  by-source i q = record { is = rw (q ∙ ap refusalOf i) (source-refused a s b t (rest s) (sym is ∙ i)) }
 
   module _ {g : Geometry} (i : l ≡ Valid g) {m : Layout} (is′ : m ≡ layoutOf b t) where
-    pub target-turned : {e r : LumaError} → m ≡ Invalid e → r ≡ refusalOf m → Comes a s b t rest (Refused (Image r))
-    target-turned j q = record { is = rw (q ∙ ap refusalOf j) (target-out a s b t (rest s) (sym is ∙ i) (sym is′ ∙ j)) }
+    pub by-target : {e r : LumaError} → m ≡ Invalid e → r ≡ refusalOf m → Comes a s b t rest (Refused (Image r))
+    by-target j q = record { is = rw (q ∙ ap refusalOf j) (target-out a s b t (rest s) (sym is ∙ i) (sym is′ ∙ j)) }
 
     module _ {h : Geometry} (j : m ≡ Valid h) where
       pub widths-differ : (g .width ≡ h .width → ⊥) → Comes a s b t rest (Refused DimensionMismatch)
       widths-differ n = record {
-        is = sizes-out a s b t (rest s) (sym is ∙ i) (sym is′ ∙ j) (rw (ne-eqb (s .width) (t .width) (λ e. n (as-opened (opened is i) (opened is′ j) (λ k. k .width) e))));
+        is =
+            sizes-out a s b t (rest s) (sym is ∙ i) (sym is′ ∙ j)
+            (rw (ne-eqb (s .width) (t .width) (λ e. n (as-opened (opened is i) (opened is′ j) (λ k. k .width) e))));
       }
 
       pub heights-differ : g .width ≡ h .width → (g .height ≡ h .height → ⊥) → Comes a s b t rest (Refused DimensionMismatch)
@@ -107,8 +110,8 @@ module _ {a : ℕ} {s : Geometry} {b : ℕ} {t : Geometry} {rest : Geometry → 
 
       module _ (w : g .width ≡ h .width) (y : g .height ≡ h .height) where
         -- what is left to check, by the source's layout that was opened
-        pub rest-turned : {e : ImgProcError} → first (rest g) ≡ Refused e → Comes a s b t rest (Refused e)
-        rest-turned r = record {
+        pub by-rest : {e : ImgProcError} → first (rest g) ≡ Refused e → Comes a s b t rest (Refused e)
+        by-rest r = record {
           is =
               sizes-in a s b t (rest s) (sym is ∙ i) (sym is′ ∙ j)
               (as-asked (opened is i) (opened is′ j) (λ k. k .width) w)
@@ -119,14 +122,14 @@ module _ {a : ℕ} {s : Geometry} {b : ℕ} {t : Geometry} {rest : Geometry → 
 
 -- ---- what is left to check, one after another
 module _ {check : Check} (a : Conditions) (is : check ≡ first a) {e : ImgProcError} where
-  pub turned-by : check ≡ Refused e → first a ≡ Refused e
-  turned-by r = sym is ∙ r
+  pub by-check : check ≡ Refused e → first a ≡ Refused e
+  by-check r = sym is ∙ r
 
-  pub first-turned : (b : Conditions) → check ≡ Refused e → first (a then b) ≡ Refused e
-  first-turned b r = then-refused a b (sym is ∙ r)
+  pub by-first : (b : Conditions) → check ≡ Refused e → first (a then b) ≡ Refused e
+  by-first b r = then-refused a b (sym is ∙ r)
 
-  pub then-turned : (b : Conditions) → check ≡ Accepted → first b ≡ Refused e → first (a then b) ≡ Refused e
-  then-turned b t r = then-accepted a b (sym is ∙ t) ∙ r
+  pub by-next : (b : Conditions) → check ≡ Accepted → first b ≡ Refused e → first (a then b) ≡ Refused e
+  by-next b t r = then-accepted a b (sym is ∙ t) ∙ r
 
 -- ---- and past the pair
 pub pair-of :
@@ -168,4 +171,4 @@ module _ {a : ℕ} {s : Geometry} {b : ℕ} {t g h : Geometry} (p : Pair a s b t
   }
 
 -- a refusal of any kind
-pub ruleset ways = (source-turned, target-turned, widths-differ, heights-differ, rest-turned, first-turned, then-turned, turned-by)
+pub ruleset ways = (by-source, by-target, widths-differ, heights-differ, by-rest, by-first, by-next, by-check)

@@ -1,4 +1,4 @@
--- Document 01, part 2: the four morphology calls; and, inside, what the parts of an accepted one ask and leave.
+-- Document 01, parts 2 and 4: the four morphology calls; and, inside, what the parts of an accepted one ask and leave.
 -- Definitions only.
 use Prim.Native.Nat.{ℕ, _*_, _^_, _≤_, _<_}
 use mathlib.Core.Path.{_≡_}

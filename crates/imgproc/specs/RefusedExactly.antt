@@ -60,9 +60,9 @@ module _ {A : Type 0} (values : A) where
   by-list cs is = exactly values (numbers cs) (is ∙ answer-is cs values)
 
   -- a refused answer comes from a check that refuses
-  turned : (c : Check) {n : ℕ} → answerBy c values ≡ refused n → RefusedBy c
-  turned Accepted p = absurd (differ values p)
-  turned (Refused e) p = record { kind = e; is = refl }
+  refuses : (c : Check) {n : ℕ} → answerBy c values ≡ refused n → RefusedBy c
+  refuses Accepted p = absurd (differ values p)
+  refuses (Refused e) p = record { kind = e; is = refl }
 
 -- ---- erosion, dilation, opening, closing, division, Sauvola: every call from picture to picture
 module _ {S A : Type 0} {operator : Operator S A} {lent : Loan S} {answer : Answer A} {left : Left}
@@ -75,7 +75,7 @@ module _ {S A : Type 0} {operator : Operator S A} {lent : Loan S} {answer : Answ
 
   pub call-keeps : {n : ℕ} → answer ≡ refused n → (left .dst ≡ lent .dst) × (left .workspace ≡ lent .workspace)
   call-keeps p =
-      let r = turned callValues (first (conditionsOf operator lent)) (sym (serves .answers) ∙ p) .is in
+      let r = refuses callValues (first (conditionsOf operator lent)) (sym (serves .answers) ∙ p) .is in
       (serves .leaves ∙ rw r, rw r at (serves .keeps))
 
 -- ---- the build of a grid
@@ -86,7 +86,7 @@ module _ {lent : BuildLent} {answer : Answer TileCounts} {left : BuildLeft} (bui
   pub build-keeps : {n : ℕ} → answer ≡ refused n
       → (left .workspace ≡ lent .workspace) × ((left .thresholds ≡ lent .thresholds) × (left .skips ≡ lent .skips))
   build-keeps p =
-      let r = turned (tilesFrom lent) (first (buildConditions lent)) (sym (builds .answers) ∙ p) .is in
+      let r = refuses (tilesFrom lent) (first (buildConditions lent)) (sym (builds .answers) ∙ p) .is in
       (rw r at (builds .workspace-left), (builds .thresholds-left ∙ rw r, builds .skips-left ∙ rw r))
 
 -- ---- the queries, which are lent nothing that they write to
@@ -114,5 +114,5 @@ module _ {lent : ReadingLent} {answer : Answer ReadingNumbers} {left : ReadingLe
   pub reading-keeps : {n : ℕ} → answer ≡ refused n
       → (left .dst ≡ lent .dst) × ((left .bytes ≡ lent .bytes) × (left .u64s ≡ lent .u64s))
   reading-keeps p =
-      let r = turned (numbersFrom lent) (first (readingConditions lent)) (sym (reads .answers) ∙ p) .is in
+      let r = refuses (numbersFrom lent) (first (readingConditions lent)) (sym (reads .answers) ∙ p) .is in
       (reads .leaves ∙ rw r, (rw r at (reads .bytes-left), rw r at (reads .u64s-left)))

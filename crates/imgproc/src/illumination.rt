@@ -84,7 +84,12 @@ pub(crate) fn flatten(
     workspace: &mut [u8],
 ) -> Tally
     requires { ⌜ FlattenReady tally (now src) geometry config (now workspace) ⌝ }
-    ensures { λ r. ⌜ Flattened tally (now (src .entry)) geometry config (now (workspace .entry)) r (now (workspace .exit)) ⌝ }
+    ensures { λ r.
+        ⌜
+        Flattened tally (now (src .entry)) geometry config (now (workspace .entry))
+        r
+        (now (workspace .exit))
+        ⌝ }
 {
     let width = geometry.width;
     let height = geometry.height;

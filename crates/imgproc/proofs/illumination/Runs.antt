@@ -40,7 +40,9 @@ module _ (tally : Tally) (src : List ℕ) (g : Geometry) (d : BackgroundDivideCo
     room = ready .room;
   })
 
-  module _ (raised : Tally) (second : List ℕ) (close : TwiceMorphed closed tally first 0 (g .width * g .height) (2 * (g .width * g .height)) (d .«structuring_element») (g .width) (g .height) raised second) where
+  module _ (raised : Tally) (second : List ℕ)
+      (close : TwiceMorphed closed tally first 0 (g .width * g .height) (2 * (g .width * g .height)) (d .«structuring_element») (g .width) (g .height)
+      raised second) where
     close-long : length second ≡ length ws
     close-long = close .kept .long ∙ plane .0
 
@@ -109,10 +111,12 @@ module _ (d : BackgroundDivideConfig) where
   unfolding first divisionSettings
   element-even l x = simp (le-ltb (d .«structuring_element») 3 l, eq-eqb _ _ x)
 
-  pub no-floor : 3 ≤ d .«structuring_element» → (d .«structuring_element» % 2 ≡ 0 → ⊥) → d .«denominator_floor» ≡ 0 → Refused InvalidConfiguration ≡ first (divisionSettings d)
+  pub no-floor : 3 ≤ d .«structuring_element» → (d .«structuring_element» % 2 ≡ 0 → ⊥) → d .«denominator_floor» ≡ 0
+      → Refused InvalidConfiguration ≡ first (divisionSettings d)
   unfolding first divisionSettings
   no-floor l o x = simp (le-ltb (d .«structuring_element») 3 l, ne-eqb (d .«structuring_element» % 2) 0 o, eq-eqb (d .«denominator_floor») 0 x)
 
-  pub settings-good : 3 ≤ d .«structuring_element» → (d .«structuring_element» % 2 ≡ 0 → ⊥) → (d .«denominator_floor» ≡ 0 → ⊥) → Accepted ≡ first (divisionSettings d)
+  pub settings-good : 3 ≤ d .«structuring_element» → (d .«structuring_element» % 2 ≡ 0 → ⊥) → (d .«denominator_floor» ≡ 0 → ⊥)
+      → Accepted ≡ first (divisionSettings d)
   unfolding first divisionSettings
   settings-good l o x = simp (le-ltb (d .«structuring_element») 3 l, ne-eqb (d .«structuring_element» % 2) 0 o, ne-eqb (d .«denominator_floor») 0 x)

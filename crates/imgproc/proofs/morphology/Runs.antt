@@ -1,4 +1,5 @@
--- The work of an accepted morphology call: its planes lie in the workspace, and what is packed, operated on and painted is the contract's picture. Assumes nothing.
+-- The work of an accepted morphology call: its planes lie in the workspace, and what is packed, operated on and painted is the contract's picture.
+-- Assumes nothing.
 use mathlib.Core.Path.{_≡_, ap, _∙_}
 use mathlib.Core.List.{List}
 use mathlib.Core.Logic.{inl, inr}

@@ -43,8 +43,18 @@ packedAs g = record { width = g .width; height = g .height; stride = g .width }
 packed-kept : {len : ℕ} {g : Geometry} → Kept len g → Kept (g .width * g .height) (packedAs g)
 packed-kept {len} {g} k =
     let e : g .height - 1 + 1 ≡ g .height = omega (arith, k .high) in
-    let m : g .width * g .height ≡ g .width * (g .height - 1) + g .width = ap (λ (n : ℕ). g .width * n) (sym e) ∙ mul-add (g .width) (g .height - 1) 1 ∙ ap (λ (n : ℕ). g .width * (g .height - 1) + n) (mul-one (g .width)) in
-    record { wide = k .wide; high = k .high; stride = omega arith; fits = omega arith; small-width = k .small-width; small-height = k .small-height }
+    let m : g .width * g .height ≡ g .width * (g .height - 1) + g .width =
+    ap (λ (n : ℕ). g .width * n) (sym e)
+    ∙ mul-add (g .width) (g .height - 1) 1
+    ∙ ap (λ (n : ℕ). g .width * (g .height - 1) + n) (mul-one (g .width)) in
+    record {
+      wide = k .wide;
+      high = k .high;
+      stride = omega arith;
+      fits = omega arith;
+      small-width = k .small-width;
+      small-height = k .small-height;
+    }
 
 -- the three counts and the tally, one by one, and their numbers
 abbrev pub counts-of : ℕ → ℕ → ℕ → Tally → ReadingCounts

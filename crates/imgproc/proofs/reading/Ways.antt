@@ -37,8 +37,10 @@ use Rattle.imgproc.proofs.grid.Ways.{sides-taken}
 pub says : (s : ReadingConfig) → first (readingSettings s) ≡ Accepted → Usable s
 unfolding readingSettings
 says s p =
-    let a = both-accepted (divisionSettings (s .division)) (refusedIf (badKernel (s .«opening_kernel»)) InvalidKernel then (gridSettings (s .grid) then sauvolaSettings (s .sauvola))) p in
-    let b = both-accepted (refusedIf (badKernel (s .«opening_kernel»)) InvalidKernel) (gridSettings (s .grid) then sauvolaSettings (s .sauvola)) (a .1) in
+    let kernel = refusedIf (badKernel (s .«opening_kernel»)) InvalidKernel in
+    let last = gridSettings (s .grid) then sauvolaSettings (s .sauvola) in
+    let a = both-accepted (divisionSettings (s .division)) (kernel then last) p in
+    let b = both-accepted kernel last (a .1) in
     let c = both-accepted (gridSettings (s .grid)) (sauvolaSettings (s .sauvola)) (b .1) in
     let d = division-says (s .division) (a .0) in
     let k = kernel-says (s .«opening_kernel») (not-refused (badKernel (s .«opening_kernel»)) InvalidKernel (b .0)) in
@@ -120,8 +122,8 @@ module _ {lent : ReadingLent} where
       → ReadDone (openedAs lent g h) r left
       → Reads lent (accepted (numbersOf r)) left
   done {g = g} {h = h} {r = r} {left = left} p settings room d =
-      let taken = then-accepted (readingSettings (lent .settings)) (readingRoom g (lent .settings) (length (lent .bytes)) (length (lent .u64s))) settings ∙ room in
-      let c = past p {rest = rest lent} taken .is in
+      let checks = readingRoom g (lent .settings) (length (lent .bytes)) (length (lent .u64s)) in
+      let c = past p {rest = rest lent} (then-accepted (readingSettings (lent .settings)) checks settings ∙ room) .is in
       let same : openedAs lent g h ≡ lent = ap₂ (openedAs lent) (sym (source-same p)) (sym (target-same p)) in
       let d′ = subst (λ (l : ReadingLent). ReadDone l r left) same d in
       record { answers = rw c (ap accepted (d′ .counted)); leaves = rw c (d′ .leaves); bytes-left = rw c (d′ .bytes-long); u64s-left = rw c (d′ .u64s-long) }

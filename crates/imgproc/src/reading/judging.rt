@@ -109,8 +109,7 @@ fn judge_rows(
     dst_geometry: Geometry,
 ) -> Judged
     requires { ⌜ JudgeReady (now opened) packed (now skips) (now workspace) at config ⌝ }
-    requires {
-        ⌜
+    requires { ⌜
         Kept (length (now dst)) «dst_geometry»
         × ((«dst_geometry» .width ≡ packed .width) × («dst_geometry» .height ≡ packed .height))
         ⌝ }
@@ -159,8 +158,7 @@ pub(crate) fn judge_picture(
     dst_geometry: Geometry,
 ) -> Judged
     requires { ⌜ JudgeRoom packed config marks (now bytes) (now u64s) ⌝ }
-    requires {
-        ⌜
+    requires { ⌜
         Kept (length (now dst)) «dst_geometry»
         × ((«dst_geometry» .width ≡ packed .width) × («dst_geometry» .height ≡ packed .height))
         ⌝ }

@@ -17,7 +17,9 @@ use Rattle.imgproc.proofs.reading.check_room.Tie as tie
 abbrev start : tie.After-tiles-along2 → tie.Start
 start t = t .before .before .before
 
-count : (t : tie.After-tiles-along2) → t .before .tiles-along .result * t .tiles-along2 .result ≡ tileCount (start t .args .config .grid) (start t .args .geometry .width) (start t .args .geometry .height)
+count : (t : tie.After-tiles-along2)
+    → let a = start t .args in
+    t .before .tiles-along .result * t .tiles-along2 .result ≡ tileCount (a .config .grid) (a .geometry .width) (a .geometry .height)
 count t = total (start t .pre) (t .before .tiles-along .ensures) (t .tiles-along2 .ensures)
 
 -- tiles, pixels and entries are within their limits

@@ -19,7 +19,11 @@ first c = second c .before .before .before .before
 abbrev start : tie.Else2 → tie.Start
 start c = first c .before .before .before .before .before .before .before .before
 
-pair : (c : tie.Else2) → let a = start c .args in Pair (length (now (a .src))) (a .src-geometry) (length (now (a .dst))) (a .dst-geometry) (first c .before .layout .given .0 .0) (second c .before .target .given .0 .0)
+pair : (c : tie.Else2)
+    → let a = start c .args in
+    Pair (length (now (a .src))) (a .src-geometry) (length (now (a .dst))) (a .dst-geometry)
+    (first c .before .layout .given .0 .0)
+    (second c .before .target .given .0 .0)
 pair c = search pair-of
 
 validate-layout-requires : tie.Need-validate-layout-requires
@@ -75,7 +79,14 @@ check-room-requires c κs =
     let s = c .before .before in
     let k = source-kept (pair (s .before)) in
     let y = says (start (s .before) .args .config) (sym (s .check-settings .ensures) ∙ c .enum-told3 .given .1) in
-    record { wide = k .wide; high = k .high; small-width = k .small-width; small-height = k .small-height; tile-width = y .tile-width; tile-height = y .tile-height }
+    record {
+      wide = k .wide;
+      high = k .high;
+      small-width = k .small-width;
+      small-height = k .small-height;
+      tile-width = y .tile-width;
+      tile-height = y .tile-height;
+    }
 
 enum-known-room : tie.Need-enum-known-room
 enum-known-room c = search needs
@@ -94,7 +105,8 @@ read-picture-requires c κs =
     let s = k .before .before in
     let p = pair (s .before) in
     let y = says (start (s .before) .args .config) (sym (s .check-settings .ensures) ∙ k .enum-told3 .given .1) in
-    let fit = room-says (first (s .before) .before .layout .given .0 .0) (start (s .before) .args .config) _ _ (sym (r .check-room .ensures) ∙ j .enum-told4 .given .1) in
+    let g = first (s .before) .before .layout .given .0 .0 in
+    let fit = room-says g (start (s .before) .args .config) _ _ (sym (r .check-room .ensures) ∙ j .enum-told4 .given .1) in
     record { pair = paired p; settings = y; bytes-fit = fit .0; u64s-fit = fit .1 }
 
 same-length : tie.Need-same-length
@@ -113,7 +125,10 @@ returns-7 c =
     let r = j .before .before in
     let k = r .before in
     let s = k .before .before in
-    done (pair (s .before)) (sym (s .check-settings .ensures) ∙ k .enum-told3 .given .1) (sym (r .check-room .ensures) ∙ j .enum-told4 .given .1) (ran .read-picture .ensures)
+    done (pair (s .before))
+    (sym (s .check-settings .ensures) ∙ k .enum-told3 .given .1)
+    (sym (r .check-room .ensures) ∙ j .enum-told4 .given .1)
+    (ran .read-picture .ensures)
 
 pub reading-spec : {M : Type 1} → statement M
 reading-spec =

@@ -13,19 +13,18 @@ tiles-along-requires c κs = c .before .before .before .before .pre .0 .tile-wid
 div-tile : tie.Need-div-tile
 div-tile c = omega (arith, c .before .before .before .before .before .before .pre .0 .tile-height)
 
+abbrev start : tie.After-tiles-along → tie.Start
+start c = c .before .before .before .before .before
+
 -- the tile's mark stands in the skips
-within : (c : tie.After-tiles-along) → c .before .before .before .before .before .args .y / c .before .before .before .before .before .args .config .grid .«tile_height» * c .tiles-along .result + c .before .before .before .before .before .args .x / c .before .before .before .before .before .args .config .grid .«tile_width» < length (now (c .before .before .before .before .before .args .skips))
-within c =
-    let e = c .before .before .before .before .before in
-    let a = e .args in
-    rw (c .tiles-along .ensures) (tile-within (now (a .opened)) (a .packed) (now (a .skips)) (now (a .workspace)) (a .at) (a .config) (e .pre .0) (a .x) (a .y) (e .pre .1 .0) (e .pre .1 .1))
+within : (c : tie.After-tiles-along)
+    → let a = c .before .before .before .before .before .args in
+    a .y / a .config .grid .«tile_height» * c .tiles-along .result + a .x / a .config .grid .«tile_width» < length (now (a .skips))
+within c = let pre = c .before .before .before .before .before .pre in rw (c .tiles-along .ensures) (tile-within (pre .0) (pre .1 .0) (pre .1 .1))
 
 -- and the pixel in the opened picture
-place : (c : tie.After-tiles-along) → c .before .before .before .before .before .args .y * c .before .before .before .before .before .args .packed .width + c .before .before .before .before .before .args .x < length (now (c .before .before .before .before .before .args .opened))
-place c =
-    let e = c .before .before .before .before .before in
-    let a = e .args in
-    place-within (now (a .opened)) (a .packed) (now (a .skips)) (now (a .workspace)) (a .at) (a .config) (e .pre .0) (a .x) (a .y) (e .pre .1 .0) (e .pre .1 .1)
+place : (c : tie.After-tiles-along) → let a = start c .args in a .y * a .packed .width + a .x < length (now (a .opened))
+place c = let pre = start c .pre in place-within (pre .0) (pre .1 .0) (pre .1 .1)
 
 mul-tile : tie.Need-mul-tile
 mul-tile c = omega (arith, within (c .before))
@@ -42,9 +41,8 @@ shared-slice-read-if1 c = within (c .before .before .before)
 returns : tie.Need-returns
 returns c =
     let t = c .before .before .before .before in
-    let e = t .before .before .before .before .before in
-    let a = e .args in
-    is-skipped (now (a .opened)) (a .packed) (now (a .skips)) (now (a .workspace)) (a .at) (a .config) (e .pre .0) (a .x) (a .y) (e .pre .1 .0) (e .pre .1 .1) (λ z. c .if1 .taken (rw (t .tiles-along .ensures) z))
+    let pre = start t .pre in
+    is-skipped (pre .0) (pre .1 .0) (pre .1 .1) (λ z. c .if1 .taken (rw (t .tiles-along .ensures) z))
 
 threshold-at-pixel-requires : tie.Need-threshold-at-pixel-requires
 threshold-at-pixel-requires c κs =
@@ -62,7 +60,7 @@ shared-slice-read-if2 c = place (c .before .before .before .before .before .befo
 cast-if2 : tie.Need-cast-if2
 cast-if2 c =
     let t = c .before .before .before .before .before .before .before in
-    let a = t .before .before .before .before .before .args in
+    let a = start t .args in
     omega (arith, c .shared-slice-known5 .given (a .y * a .packed .width + a .x))
 
 returns-2 : tie.Need-returns-2
@@ -70,18 +68,16 @@ returns-2 c =
     let p = c .before .before .before in
     let l = p .before in
     let t = l .before .before .before .before in
-    let e = t .before .before .before .before .before in
-    let a = e .args in
-    is-dark (now (a .opened)) (a .packed) (now (a .skips)) (now (a .workspace)) (a .at) (a .config) (e .pre .0) (a .x) (a .y) (e .pre .1 .0) (e .pre .1 .1) (rw (t .tiles-along .ensures) at (l .if1 .left)) (p .threshold-at-pixel .result) (p .threshold-at-pixel .ensures) (c .if2 .taken)
+    let pre = start t .pre in
+    is-dark (pre .0) (pre .1 .0) (pre .1 .1) (rw (t .tiles-along .ensures) at (l .if1 .left)) (p .threshold-at-pixel .ensures) (c .if2 .taken)
 
 returns-3 : tie.Need-returns-3
 returns-3 c =
     let p = c .before .before .before in
     let l = p .before in
     let t = l .before .before .before .before in
-    let e = t .before .before .before .before .before in
-    let a = e .args in
-    is-light (now (a .opened)) (a .packed) (now (a .skips)) (now (a .workspace)) (a .at) (a .config) (e .pre .0) (a .x) (a .y) (e .pre .1 .0) (e .pre .1 .1) (rw (t .tiles-along .ensures) at (l .if1 .left)) (p .threshold-at-pixel .result) (p .threshold-at-pixel .ensures) (c .if2 .left)
+    let pre = start t .pre in
+    is-light (pre .0) (pre .1 .0) (pre .1 .1) (rw (t .tiles-along .ensures) at (l .if1 .left)) (p .threshold-at-pixel .ensures) (c .if2 .left)
 
 pub judge-spec : {M : Type 1} → statement M
 judge-spec =

@@ -6,8 +6,8 @@ use mathlib.Core.Path.{_≡_, refl, sym, _∙_, subst}
 use lib.ListN.{length, length-set}
 use denote.Ref.{now}
 use Rattle.imgproc.specs.declared.reading.judging.Judgement.the-variants.{Dark, Light, Skipped}
-use Rattle.imgproc.specs.ReadingSteps.{PixelsJudged}
-use Rattle.imgproc.proofs.reading.judging.Judgements.{none-judged, next-judged, count-small}
+use Rattle.imgproc.specs.ReadingSteps.{Room, PixelsJudged}
+use Rattle.imgproc.proofs.reading.judging.Judgements.{none-judged, next-judged, room-for-one}
 use Rattle.imgproc.proofs.reading.judging.judge_row.Statement.{statement}
 use Rattle.imgproc.proofs.reading.judging.judge_row.Tie as tie
 
@@ -20,8 +20,7 @@ abbrev μ-loop : tie.MeasureT-loop
 
 loop-holds : tie.Need-loop-holds Inv-loop μ-loop
 loop-holds c =
-    let a = c .before .before .before .before .before .args in
-    ((omega arith, refl), none-judged (a .judged) (a .config) (a .packed) (now (a .opened)) (a .y) (now (a .out)))
+    ((omega arith, refl), none-judged)
 
 -- the pixel at hand lies in the row
 inside : (c : tie.Then1 Inv-loop μ-loop) → c .before .before .loop .next < length (c .before .before .loop .out)
@@ -30,12 +29,10 @@ inside c =
     omega (arith, c .if1 .taken, c .before .before .loop .inv .0 .1, e .pre .1 .1 .0)
 
 -- and there is room to count it
-room : (c : tie.Then1 Inv-loop μ-loop) → (c .before .before .loop .counts .dark + 1 < 18446744073709551616) × ((c .before .before .loop .counts .light + 1 < 18446744073709551616) × (c .before .before .loop .counts .skipped + 1 < 18446744073709551616))
+room : (c : tie.Then1 Inv-loop μ-loop) → Room (c .before .before .loop .counts) 1
 room c =
     let l = c .before .before in
-    let e = l .before .before .before .before .before .before in
-    let a = e .args in
-    count-small (a .judged) (a .config) (a .packed) (now (a .opened)) (a .y) (l .loop .next) (a .packed .width) (c .if1 .taken) (l .loop .inv .1) (e .pre .1 .1 .1)
+    let e = l .before .before .before .before .before .before in room-for-one (c .if1 .taken) (l .loop .inv .1) (e .pre .1 .1 .1)
 
 add-next : tie.Need-add-next Inv-loop μ-loop
 add-next c = let e = c .before .before .before .before .before .before .before .before in omega (arith, c .if1 .taken, e .pre .0 .tables .layout .small-width)
@@ -47,7 +44,7 @@ enum-told : tie.Need-enum-told Inv-loop μ-loop
 enum-told c = search needs
 
 add-counts : tie.Need-add-counts Inv-loop μ-loop
-add-counts c = record { fits = room (c .before .before .before .before) .0 }
+add-counts c = record { fits = room (c .before .before .before .before) .dark }
 
 slice-write-out : tie.Need-slice-write-out Inv-loop μ-loop
 slice-write-out c = inside (c .before .before .before .before)
@@ -59,18 +56,16 @@ loop-again : tie.Need-loop-again Inv-loop μ-loop
 loop-again c =
     let j = c .before .before .before in
     let t = j .before in
-    let l = t .before .before in
-    let e = l .before .before .before .before .before .before in
-    let a = e .args in (
+    let l = t .before .before in (
       (omega (arith, t .if1 .taken), length-set (l .loop .out) (l .loop .next) _ ∙ l .loop .inv .0 .1),
-      next-judged (a .judged) (a .config) (a .packed) (now (a .opened)) (a .y) (l .loop .next) Dark (l .loop .inv .1) (inside t) (sym (c .before .enum-told .given .1) ∙ j .judge .ensures) (omega arith) (omega arith) (omega arith),
+      next-judged Dark (l .loop .inv .1) (inside t) (sym (c .before .enum-told .given .1) ∙ j .judge .ensures) (omega arith) (omega arith) (omega arith),
     )
 
 enum-told-2 : tie.Need-enum-told-2 Inv-loop μ-loop
 enum-told-2 c = search needs
 
 add-counts-2 : tie.Need-add-counts-2 Inv-loop μ-loop
-add-counts-2 c = record { fits = room (c .before .before .before .before) .1 .0 }
+add-counts-2 c = record { fits = room (c .before .before .before .before) .light }
 
 slice-write-out-2 : tie.Need-slice-write-out-2 Inv-loop μ-loop
 slice-write-out-2 c = inside (c .before .before .before .before)
@@ -82,18 +77,16 @@ loop-again-2 : tie.Need-loop-again-2 Inv-loop μ-loop
 loop-again-2 c =
     let j = c .before .before .before in
     let t = j .before in
-    let l = t .before .before in
-    let e = l .before .before .before .before .before .before in
-    let a = e .args in (
+    let l = t .before .before in (
       (omega (arith, t .if1 .taken), length-set (l .loop .out) (l .loop .next) _ ∙ l .loop .inv .0 .1),
-      next-judged (a .judged) (a .config) (a .packed) (now (a .opened)) (a .y) (l .loop .next) Light (l .loop .inv .1) (inside t) (sym (c .before .enum-told2 .given .1) ∙ j .judge .ensures) (omega arith) (omega arith) (omega arith),
+      next-judged Light (l .loop .inv .1) (inside t) (sym (c .before .enum-told2 .given .1) ∙ j .judge .ensures) (omega arith) (omega arith) (omega arith),
     )
 
 enum-told-3 : tie.Need-enum-told-3 Inv-loop μ-loop
 enum-told-3 c = search needs
 
 add-counts-3 : tie.Need-add-counts-3 Inv-loop μ-loop
-add-counts-3 c = record { fits = room (c .before .before .before .before) .1 .1 }
+add-counts-3 c = record { fits = room (c .before .before .before .before) .skipped }
 
 slice-write-out-3 : tie.Need-slice-write-out-3 Inv-loop μ-loop
 slice-write-out-3 c = inside (c .before .before .before .before)
@@ -105,11 +98,9 @@ loop-again-3 : tie.Need-loop-again-3 Inv-loop μ-loop
 loop-again-3 c =
     let j = c .before .before .before in
     let t = j .before in
-    let l = t .before .before in
-    let e = l .before .before .before .before .before .before in
-    let a = e .args in (
+    let l = t .before .before in (
       (omega (arith, t .if1 .taken), length-set (l .loop .out) (l .loop .next) _ ∙ l .loop .inv .0 .1),
-      next-judged (a .judged) (a .config) (a .packed) (now (a .opened)) (a .y) (l .loop .next) Skipped (l .loop .inv .1) (inside t) (sym (c .before .enum-told3 .given .1) ∙ j .judge .ensures) (omega arith) (omega arith) (omega arith),
+      next-judged Skipped (l .loop .inv .1) (inside t) (sym (c .before .enum-told3 .given .1) ∙ j .judge .ensures) (omega arith) (omega arith) (omega arith),
     )
 
 same-length : tie.Need-same-length Inv-loop μ-loop

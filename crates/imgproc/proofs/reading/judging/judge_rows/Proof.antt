@@ -16,7 +16,8 @@ use Rattle.imgproc.proofs.reading.judging.judge_rows.Tie as tie
 
 abbrev Inv-loop : tie.InvT-loop
 Inv-loop opened packed skips workspace at config dst₀ dst-geometry counts₀ y₀ dst counts y =
-    RowsPainted (markedOver config (packed .width) (packed .height) opened) (packed .width) (packed .height) (dst-geometry .stride) dst₀ dst y × RowsCounted config packed opened counts y
+    RowsPainted (markedOver config (packed .width) (packed .height) opened) (packed .width) (packed .height) (dst-geometry .stride) dst₀ dst y
+    × RowsCounted config packed opened counts y
 
 abbrev μ-loop : tie.MeasureT-loop
 μ-loop opened packed skips workspace at config dst₀ dst-geometry counts₀ y₀ dst counts y = packed .height - y
@@ -32,10 +33,12 @@ wide : (s : tie.Start Inv-loop μ-loop) → (0 < s .args .packed .width) × (s .
 wide s = (s .pre .0 .tables .layout .wide, omega (arith, s .pre .1 .0 .stride, s .pre .1 .1 .0))
 
 -- row y of the destination
-within : (t : tie.Then1 Inv-loop μ-loop) → t .before .before .loop .y * start t .args .dst-geometry .stride + start t .args .packed .width ≤ length (now (start t .args .dst))
+within : (t : tie.Then1 Inv-loop μ-loop)
+    → let a = start t .args in t .before .before .loop .y * a .dst-geometry .stride + a .packed .width ≤ length (now (a .dst))
 within t = let s = start t in row-within-as (s .pre .1 .0) (s .pre .1 .1 .0) (s .pre .1 .1 .1) (t .before .before .loop .y) (t .if1 .taken)
 
-fits : (t : tie.Then1 Inv-loop μ-loop) → t .before .before .loop .y * start t .args .dst-geometry .stride + start t .args .packed .width ≤ length (t .before .before .loop .dst)
+fits : (t : tie.Then1 Inv-loop μ-loop)
+    → let a = start t .args in t .before .before .loop .y * a .dst-geometry .stride + a .packed .width ≤ length (t .before .before .loop .dst)
 fits t =
     let s = start t in
     let l = t .before .before .loop in
@@ -44,7 +47,7 @@ fits t =
 loop-holds : tie.Need-loop-holds Inv-loop μ-loop
 loop-holds c =
     let s = c .before .before .before .before in
-    (rows-start (new s) _ _ _ _, none-counted (s .args .config) (s .args .packed) (now (s .args .opened)) (wide s .0) _ refl refl refl)
+    (rows-start (new s) _ _ _ _, none-counted (wide s .0) refl refl refl)
 
 mul-from : tie.Need-mul-from Inv-loop μ-loop
 mul-from c = omega (arith, within (c .before))
@@ -72,7 +75,7 @@ judge-row-requires c κs =
         t .if1 .taken,
         (
           part-long (new s) _ _ _ (now (a .dst)) (l .y) (l .inv .0) (wide s .0) (wide s .1) (within t),
-          room-for-row (a .config) (a .packed) (now (a .opened)) (wide s .0) (l .counts) (l .y) (l .inv .1) (t .if1 .taken) (area-small (s .pre .0 .tables .layout)),
+          room-for-row (wide s .0) (l .inv .1) (t .if1 .taken) (area-small (s .pre .0 .tables .layout)),
         ),
       ),
     )
@@ -93,9 +96,11 @@ loop-again c =
     let a = s .args in (
       rows-next (new s) _ _ _ (now (a .dst)) (l .y) (l .inv .0) (wide s .0) (wide s .1) (within t) (v .judge-row .last .1 .1 .1 .1 .1 .1 .1 .1 .0)
           (v .judge-row .kept .1 .1 .1 .1 .1 .1 .1 .1 .0 ∙ part-long (new s) _ _ _ (now (a .dst)) (l .y) (l .inv .0) (wide s .0) (wide s .1) (within t))
-          (λ x u. v .judge-row .ensures .each x u ∙ sym (marked-pixel (a .config) (a .packed .width) (a .packed .height) (now (a .opened)) x (l .y) u (t .if1 .taken)))
+          (λ x u.
+          v .judge-row .ensures .each x u
+          ∙ sym (marked-pixel (a .config) (a .packed .width) (a .packed .height) (now (a .opened)) x (l .y) u (t .if1 .taken)))
           (t .if1 .taken),
-      next-counted (a .config) (a .packed) (now (a .opened)) (wide s .0) (l .y) (l .inv .1) (v .judge-row .ensures),
+      next-counted (wide s .0) (l .inv .1) (v .judge-row .ensures),
     )
 
 same-length : tie.Need-same-length Inv-loop μ-loop
