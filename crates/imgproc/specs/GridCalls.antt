@@ -10,7 +10,7 @@ use lib.Ieee.Scale.{finite}
 use Rattle.image.specs.declared.Geometry.{Geometry}
 use Rattle.image.specs.declared.LumaError.the-variants.{OutsidePicture}
 use Rattle.image.specs.Answers.{Answer, accepted, refused}
-use Rattle.image.specs.Layout.{sideLimit}
+use Rattle.image.specs.Layout.{Kept, sideLimit}
 use Rattle.image.specs.Plane.{overwritten, picture}
 use Rattle.imgproc.specs.declared.ImgProcError.{ImgProcError}
 use Rattle.imgproc.specs.declared.ImgProcError.the-variants.{Image, InvalidConfiguration, WorkspaceTooSmall, GridBufferTooSmall}
@@ -30,6 +30,7 @@ use Rattle.imgproc.specs.declared.grid.queries.TileSkip.{TileSkip}
 use Rattle.imgproc.specs.declared.grid.queries.TileSkip.the-variants.{Is, Refused as TileSkip·Refused}
 use Rattle.imgproc.specs.Reach.{ceiling}
 use Rattle.imgproc.specs.Grid.{tilesX, tilesY, nought, thresholds, skips}
+use Rattle.imgproc.specs.Tiles.{Sized}
 use Rattle.imgproc.specs.Refusals.{
   errorNumber,
   Conditions,
@@ -83,6 +84,22 @@ pub record BuildLeft : Type 0 where
   pub thresholds : List ℕ
   pub skips : List ℕ
 
+-- t, the tiles of what was lent
+abbrev pub tilesLent : BuildLent → ℕ
+tilesLent lent = tileCount (lent .settings) (lent .source .width) (lent .source .height)
+
+-- the threshold buffer after an accepted build: the picture's thresholds in its first t bytes
+abbrev pub thresholdsOver : BuildLent → List ℕ
+thresholdsOver lent =
+    let g = lent .source in
+    overwritten 0 (thresholds (lent .settings) (g .width) (g .height) (picture (lent .src) g)) (lent .thresholds)
+
+-- the skip buffer after an accepted build: the picture's skips in its first t bytes
+abbrev pub skipsOver : BuildLent → List ℕ
+skipsOver lent =
+    let g = lent .source in
+    overwritten 0 (skips (lent .settings) (g .width) (g .height) (picture (lent .src) g)) (lent .skips)
+
 -- the values of a build
 pub record TileCounts : Type 0 where
   pub tiles-x : ℕ
@@ -98,7 +115,7 @@ abbrev pub buildConditionsBy : Conditions → BuildLent → Conditions
 buildConditionsBy settings lent =
     viewConditions (length (lent .src)) (lent .source) then
     settings then
-    gridRoom (tileCount (lent .settings) (lent .source .width) (lent .source .height)) (length (lent .workspace)) (length (lent .thresholds)) (length (lent .skips))
+    gridRoom (tilesLent lent) (length (lent .workspace)) (length (lent .thresholds)) (length (lent .skips))
 
 abbrev pub buildConditions : BuildLent → Conditions
 buildConditions lent = buildConditionsBy (gridSettings (lent .settings)) lent
@@ -111,31 +128,31 @@ tilesFrom lent =
 -- a build by a list of conditions: the first t bytes of both buffers are the picture's thresholds and skips, and every other byte is as it was
 pub record BuildsBy (cs : Conditions) (lent : BuildLent) (answer : Answer TileCounts) (left : BuildLeft) : Type 0 where
   pub answers : answer ≡ answerBy (first cs) (tilesFrom lent)
-  pub thresholds-left : left .thresholds
-      ≡ leftBy (first cs)
-      (overwritten 0 (thresholds (lent .settings) (lent .source .width) (lent .source .height) (picture (lent .src) (lent .source))) (lent .thresholds))
-      (lent .thresholds)
-  pub skips-left : left .skips
-      ≡ leftBy (first cs)
-      (overwritten 0 (skips (lent .settings) (lent .source .width) (lent .source .height) (picture (lent .src) (lent .source))) (lent .skips))
-      (lent .skips)
+  pub thresholds-left : left .thresholds ≡ leftBy (first cs) (thresholdsOver lent) (lent .thresholds)
+  pub skips-left : left .skips ≡ leftBy (first cs) (skipsOver lent) (lent .skips)
   pub workspace-left : Lent (first cs) (lent .workspace) (left .workspace)
 
 -- the contract of `build`
 abbrev pub Builds : BuildLent → Answer TileCounts → BuildLeft → Type 0
 Builds lent = BuildsBy (buildConditions lent) lent
 
--- buffers that hold t tiles
-pub record Rooms (t : ℕ) (ws th sk : List ℕ) : Type 0 where
-  pub workspace : 5 * t ≤ length ws
-  pub thresholds : t ≤ length th
-  pub skips : t ≤ length sk
+-- the lent buffers hold t tiles
+pub record Rooms (lent : BuildLent) : Type 0 where
+  pub workspace : 5 * tilesLent lent ≤ length (lent .workspace)
+  pub thresholds : tilesLent lent ≤ length (lent .thresholds)
+  pub skips : tilesLent lent ≤ length (lent .skips)
 
--- what an accepted build leaves
-pub record Fills (src : List ℕ) (s : Geometry) (g : TileThresholdConfig) (ws th sk ws′ th′ sk′ : List ℕ) : Type 0 where
-  pub thresholds-left : th′ ≡ overwritten 0 (thresholds g (s .width) (s .height) (picture src s)) th
-  pub skips-left : sk′ ≡ overwritten 0 (skips g (s .width) (s .height) (picture src s)) sk
-  pub long : length ws′ ≡ length ws
+-- what `fill` asks: what a build that no condition refuses is lent
+pub record FillReady (lent : BuildLent) : Type 0 where
+  pub layout : Kept (length (lent .src)) (lent .source)
+  pub sized : Sized (lent .settings) (lent .source .width) (lent .source .height)
+  pub rooms : Rooms lent
+
+-- what `fill` leaves: both buffers as an accepted build leaves them
+pub record Fills (lent : BuildLent) (left : BuildLeft) : Type 0 where
+  pub thresholds-left : left .thresholds ≡ thresholdsOver lent
+  pub skips-left : left .skips ≡ skipsOver lent
+  pub long : length (left .workspace) ≡ length (lent .workspace)
 
 -- ---- queries
 

@@ -101,19 +101,34 @@ pub record Stores (at : ℕ) (n : TileNumbers) (before after : List ℕ) : Type 
   pub before-it : (i : ℕ) → i < at → getD after i 0 ≡ getD before i 0
   pub after-it : (i : ℕ) → at + 5 ≤ i → getD after i 0 ≡ getD before i 0
 
--- what `gather` asks: the picture lies in the slice, the tiles have sides, and their numbers have room from `at` on
-abbrev pub GatherReady : List ℕ → Geometry → TileThresholdConfig → ℕ → List ℕ → Type 0
-GatherReady src s g at ws =
-    Kept (length src) s
-    × Sized g (s .width) (s .height)
-    × (at + 5 * (tilesX g (s .width) * tilesY g (s .height)) ≤ length ws)
+-- what `gather` is lent: a picture, the settings of a grid, and a workspace that takes the tiles' numbers from `at` on
+pub record GatherLent : Type 0 where
+  pub src : List ℕ
+  pub source : Geometry
+  pub settings : TileThresholdConfig
+  pub workspace : List ℕ
+  pub at : ℕ
 
--- the contract of `gather`: the numbers of every tile from `at` on, and nothing else
-pub record Gathers (src : List ℕ) (s : Geometry) (g : TileThresholdConfig) (at : ℕ) (before after : List ℕ) : Type 0 where
-  pub long : length after ≡ length before
-  pub gathered : Gathered (pixel src (s .stride)) g (s .width) (s .height) at after
-  pub before-it : (i : ℕ) → i < at → getD after i 0 ≡ getD before i 0
-  pub after-it : (i : ℕ) → at + 5 * (tilesX g (s .width) * tilesY g (s .height)) ≤ i → getD after i 0 ≡ getD before i 0
+module _ (lent : GatherLent) where
+  -- where the numbers of its tiles end
+  abbrev pub gatherEnd : ℕ
+  gatherEnd =
+      lent .at + 5 * (tilesX (lent .settings) (lent .source .width) * tilesY (lent .settings) (lent .source .height))
+
+  -- what `gather` asks: the picture lies in the slice, the tiles have sides, and their numbers have room
+  pub record GatherReady : Type 0 where
+    pub layout : Kept (length (lent .src)) (lent .source)
+    pub sized : Sized (lent .settings) (lent .source .width) (lent .source .height)
+    pub room : gatherEnd ≤ length (lent .workspace)
+
+  -- the contract of `gather`: the numbers of every tile are stored from `at` on, and nothing else
+  pub record Gathers (after : List ℕ) : Type 0 where
+    pub long : length after ≡ length (lent .workspace)
+    pub gathered :
+        Gathered (pixel (lent .src) (lent .source .stride))
+        (lent .settings) (lent .source .width) (lent .source .height) (lent .at) after
+    pub before-it : (i : ℕ) → i < lent .at → getD after i 0 ≡ getD (lent .workspace) i 0
+    pub after-it : (i : ℕ) → gatherEnd ≤ i → getD after i 0 ≡ getD (lent .workspace) i 0
 
 -- numbers of at most as many bytes as a picture has
 pub record Small (n : TileNumbers) : Type 0 where

@@ -5,29 +5,35 @@ pub mod config;
 pub mod queries;
 pub(crate) mod tiles;
 
-pub use config::SauvolaFloats;
-pub use config::TileThresholdConfig;
-pub use config::TileThresholdMethod;
-pub use queries::TileSkip;
-pub use queries::TileThreshold;
-pub use queries::TileThresholdGrid;
-
 use crate::Check;
 use crate::ImgProcError;
 use crate::grid::bytes::write_skips;
 use crate::grid::bytes::write_thresholds;
 use crate::grid::tiles::gather;
 use crate::grid::tiles::tiles_along;
+pub use config::SauvolaFloats;
+pub use config::TileThresholdConfig;
+pub use config::TileThresholdMethod;
 use image::Geometry;
 use image::Layout;
+pub use queries::TileSkip;
+pub use queries::TileThreshold;
+pub use queries::TileThresholdGrid;
 ghost use mathlib.Core.Path.{_≡_};
 ghost use Prim.Native.Nat.{_*_, _≤_, _<_};
-ghost use lib.ListN.{length};
-ghost use Rattle.image.specs.Layout.{Kept, sideLimit};
+ghost use Rattle.image.specs.Layout.{sideLimit};
 ghost use Rattle.imgproc.specs.Refusals.{first, _then_};
-ghost use Rattle.imgproc.specs.Grid.{tilesLimit, thresholds, skips};
-ghost use Rattle.imgproc.specs.Tiles.{Sized};
-ghost use Rattle.imgproc.specs.GridCalls.{usableMethod, gridSettings, tileCount, gridRoom, Rooms, Fills, Builds, builtAnswer};
+ghost use Rattle.imgproc.specs.Grid.{tilesLimit};
+ghost use Rattle.imgproc.specs.GridCalls.{
+  usableMethod,
+  gridSettings,
+  tileCount,
+  gridRoom,
+  FillReady,
+  Fills,
+  Builds,
+  builtAnswer,
+};
 
 // The tile counts, or the refusal.
 pub enum Built {
@@ -108,8 +114,34 @@ fn fill(
     thresholds: &mut [u8],
     skips: &mut [u8],
 )
-    requires { ⌜ Kept (length (now src)) geometry × Sized config (geometry .width) (geometry .height) × Rooms (tileCount config (geometry .width) (geometry .height)) (now workspace) (now thresholds) (now skips) ⌝ }
-    ensures { λ _. ⌜ Fills (now (src .entry)) geometry config (now (workspace .entry)) (now (thresholds .entry)) (now (skips .entry)) (now (workspace .exit)) (now (thresholds .exit)) (now (skips .exit)) ⌝ }
+    requires { ⌜
+        FillReady
+        (record {
+          src = now src;
+          source = geometry;
+          settings = config;
+          workspace = now workspace;
+          thresholds = now thresholds;
+          skips = now skips;
+        })
+        ⌝ }
+    ensures { λ _.
+        ⌜
+        Fills
+        (record {
+          src = now (src .entry);
+          source = geometry;
+          settings = config;
+          workspace = now (workspace .entry);
+          thresholds = now (thresholds .entry);
+          skips = now (skips .entry);
+        })
+        (record {
+          workspace = now (workspace .exit);
+          thresholds = now (thresholds .exit);
+          skips = now (skips .exit);
+        })
+        ⌝ }
 {
     gather(src, geometry, config, workspace, 0);
     let width = geometry.width;
@@ -140,7 +172,11 @@ impl TileThresholdGrid {
               skips = now (skips .entry);
             })
             (builtAnswer r)
-            (record { workspace = now (workspace .exit); thresholds = now (thresholds .exit); skips = now (skips .exit) })
+            (record {
+              workspace = now (workspace .exit);
+              thresholds = now (thresholds .exit);
+              skips = now (skips .exit);
+            })
             ⌝ }
     {
         let layout = image::validate_layout(src.len(), geometry);

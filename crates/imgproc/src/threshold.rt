@@ -1,4 +1,4 @@
-// Sauvola's local threshold (Sauvola and Pietikäinen 2000) in whole numbers, from the summed-area tables of the picture.
+// Sauvola's local threshold (Sauvola and Pietikäinen 2000) in whole numbers, from the picture's summed-area tables.
 pub(crate) mod tables;
 
 use crate::Check;
@@ -9,13 +9,22 @@ use image::Geometry;
 use image::Layout;
 ghost use mathlib.Core.Path.{_≡_};
 ghost use Prim.Native.Nat.{ℕ, _+_, _-_, _≤_, _<_, min};
-ghost use lib.ListN.{length, getD};
-ghost use Rattle.image.specs.Layout.{Kept, sideLimit};
-ghost use Rattle.image.specs.Plane.{picture};
-ghost use Rattle.imgproc.specs.Refusals.{first, sauvolaSettings, settingsAndRoom, tableEntries};
+ghost use lib.ListN.{getD};
+ghost use Rattle.image.specs.Layout.{sideLimit};
+ghost use Rattle.image.specs.Plane.{picture, paintedOn};
+ghost use Rattle.imgproc.specs.Refusals.{first, sauvolaSettings, settingsAndRoom};
 ghost use Rattle.imgproc.specs.WholeRoot.{wholeRoot};
-ghost use Rattle.imgproc.specs.Tables.{InRange, Ready, Sane};
-ghost use Rattle.imgproc.specs.Sauvola.{sauvolaDefaults, binarizedAnswer, spread, threshold, thresholdAtPixel, verdict, binarizedInto, sauvola};
+ghost use Rattle.imgproc.specs.Tables.{InRange, Ready, RowReady, RowsReady, BinarizeReady, Sane};
+ghost use Rattle.imgproc.specs.Sauvola.{
+  sauvolaDefaults,
+  binarizedAnswer,
+  spread,
+  threshold,
+  thresholdAtPixel,
+  verdict,
+  binarized,
+  sauvola,
+};
 ghost use Rattle.imgproc.specs.Calls.{Serves};
 ghost use Rattle.image.specs.Answers.{answerNumber};
 
@@ -142,8 +151,16 @@ pub(crate) fn threshold_at_pixel(
     x: usize,
     y: usize,
 ) -> u64
-    requires { ⌜ Ready (now src) geometry (now workspace) at config × ((x < geometry .width) × (y < geometry .height)) ⌝ }
-    ensures { λ r. ⌜ r ≡ thresholdAtPixel config (geometry .width) (geometry .height) (picture (now (src .entry)) geometry) x y ⌝ }
+    requires { ⌜
+        Ready
+        (record { src = now src; source = geometry; workspace = now workspace; at = at; settings = config })
+        × ((x < geometry .width) × (y < geometry .height))
+        ⌝ }
+    ensures { λ r.
+        ⌜
+        r
+        ≡ thresholdAtPixel config (geometry .width) (geometry .height) (picture (now (src .entry)) geometry) x y
+        ⌝ }
 {
     let wide = geometry.width + 1;
     let squares = at + wide * (geometry.height + 1);
@@ -169,8 +186,18 @@ fn verdict_row(
     y: usize,
     out: &mut [u8],
 )
-    requires { ⌜ Ready (now src) geometry (now workspace) at config × ((y < geometry .height) × (length (now out) ≡ geometry .width)) ⌝ }
-    ensures { λ _. ⌜ ((x : ℕ) → x < geometry .width → getD (now (out .exit)) x 0 ≡ verdict config (geometry .width) (geometry .height) (picture (now (src .entry)) geometry) x y) ⌝ }
+    requires { ⌜
+        RowReady
+        (record { src = now src; source = geometry; workspace = now workspace; at = at; settings = config })
+        y
+        (now out)
+        ⌝ }
+    ensures { λ _.
+        ⌜
+        ((x : ℕ) → x < geometry .width
+        → getD (now (out .exit)) x 0
+        ≡ verdict config (geometry .width) (geometry .height) (picture (now (src .entry)) geometry) x y)
+        ⌝ }
 {
     let row = image::row(src, geometry, y);
     let mut next = 0;
@@ -196,9 +223,18 @@ pub(crate) fn binarize_rows(
     dst_geometry: Geometry,
     config: SauvolaConfig,
 )
-    requires { ⌜ Ready (now src) geometry (now workspace) at config ⌝ }
-    requires { ⌜ Kept (length (now dst)) «dst_geometry» × ((«dst_geometry» .width ≡ geometry .width) × («dst_geometry» .height ≡ geometry .height)) ⌝ }
-    ensures { λ _. ⌜ now (dst .exit) ≡ binarizedInto config (now (src .entry)) geometry (now (dst .entry)) «dst_geometry» ⌝ }
+    requires { ⌜
+        RowsReady
+        (record { src = now src; source = geometry; workspace = now workspace; at = at; settings = config })
+        (now dst)
+        «dst_geometry»
+        ⌝ }
+    ensures { λ _.
+        ⌜
+        now (dst .exit)
+        ≡ paintedOn (now (dst .entry)) «dst_geometry»
+        (binarized config (geometry .width) (geometry .height) (picture (now (src .entry)) geometry))
+        ⌝ }
 {
     let mut y = 0;
     while y < geometry.height {
@@ -249,9 +285,23 @@ fn binarize(
     config: SauvolaConfig,
     workspace: &mut [u64],
 )
-    requires { ⌜ Kept (length (now src)) geometry × (Kept (length (now dst)) «dst_geometry» × ((«dst_geometry» .width ≡ geometry .width) × («dst_geometry» .height ≡ geometry .height))) ⌝ }
-    requires { ⌜ InRange config × (tableEntries (geometry .width) (geometry .height) ≤ length (now workspace)) ⌝ }
-    ensures { λ _. ⌜ now (dst .exit) ≡ binarizedInto config (now (src .entry)) geometry (now (dst .entry)) «dst_geometry» ⌝ }
+    requires { ⌜
+        BinarizeReady
+        (record {
+          src = now src;
+          source = geometry;
+          dst = now dst;
+          target = «dst_geometry»;
+          settings = config;
+          workspace = now workspace;
+        })
+        ⌝ }
+    ensures { λ _.
+        ⌜
+        now (dst .exit)
+        ≡ paintedOn (now (dst .entry)) «dst_geometry»
+        (binarized config (geometry .width) (geometry .height) (picture (now (src .entry)) geometry))
+        ⌝ }
 {
     build_tables(src, geometry, workspace, 0);
     binarize_rows(src, geometry, workspace, 0, dst, dst_geometry, config);

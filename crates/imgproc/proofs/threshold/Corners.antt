@@ -81,7 +81,7 @@ pub record WindowSums (d : List ℕ) (g : Geometry) (ws : List ℕ) (base : ℕ)
 
 -- the window of pixel (x, y), from x0 to x1 and from y0 to y1, the ends left out
 module _
-    (d : List ℕ) (g : Geometry) (ws : List ℕ) (base : ℕ) (config : SauvolaConfig) (R : Ready d g ws base config) (byte : (i : ℕ) → getD d i 0 ≤ 255)
+    (d : List ℕ) (g : Geometry) (ws : List ℕ) (base : ℕ) (config : SauvolaConfig) (R : Ready (record { src = d; source = g; workspace = ws; at = base; settings = config })) (byte : (i : ℕ) → getD d i 0 ≤ 255)
     (x y x0 x1 y0 y1 : ℕ) (a : x < g .width) (b : y < g .height)
     (p0 : x0 ≡ x - config .radius) (p1 : x1 ≡ min (x + config .radius + 1) (g .width))
     (q0 : y0 ≡ y - config .radius) (q1 : y1 ≡ min (y + config .radius + 1) (g .height))

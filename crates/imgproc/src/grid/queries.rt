@@ -11,8 +11,18 @@ ghost use lib.Dec.{ltb};
 ghost use lib.ListN.{length};
 ghost use Rattle.imgproc.specs.Refusals.{first};
 ghost use Rattle.imgproc.specs.GridCalls.{
-    badSide, badGrid, queryConditions, pixelPlace, rowPlace, placeRefusal, allSkipped, tileThresholdAnswer, tileSkipAnswer,
-    thresholdAsked, skipAsked, rowSkipAsked
+  badSide,
+  badGrid,
+  queryConditions,
+  pixelPlace,
+  rowPlace,
+  placeRefusal,
+  allSkipped,
+  tileThresholdAnswer,
+  tileSkipAnswer,
+  thresholdAsked,
+  skipAsked,
+  rowSkipAsked,
 };
 
 // The sizes of a built grid: the picture's sides, the tile sides and the tile counts.

@@ -156,8 +156,22 @@ fn gather_tiles(
     workspace: &mut [u64],
     at: usize,
 )
-    requires { ⌜ GatherReady (now src) geometry config at (now workspace) ⌝ }
-    ensures { λ _. ⌜ Gathers (now (src .entry)) geometry config at (now (workspace .entry)) (now (workspace .exit)) ⌝ }
+    requires { ⌜
+        GatherReady
+        (record { src = now src; source = geometry; settings = config; workspace = now workspace; at = at })
+        ⌝ }
+    ensures { λ _.
+        ⌜
+        Gathers
+        (record {
+          src = now (src .entry);
+          source = geometry;
+          settings = config;
+          workspace = now (workspace .entry);
+          at = at;
+        })
+        (now (workspace .exit))
+        ⌝ }
 {
     let tiles_x = tiles_along(geometry.width, config.tile_width);
     let tiles_y = tiles_along(geometry.height, config.tile_height);
@@ -179,8 +193,22 @@ pub(crate) fn gather(
     workspace: &mut [u64],
     at: usize,
 )
-    requires { ⌜ GatherReady (now src) geometry config at (now workspace) ⌝ }
-    ensures { λ _. ⌜ Gathers (now (src .entry)) geometry config at (now (workspace .entry)) (now (workspace .exit)) ⌝ }
+    requires { ⌜
+        GatherReady
+        (record { src = now src; source = geometry; settings = config; workspace = now workspace; at = at })
+        ⌝ }
+    ensures { λ _.
+        ⌜
+        Gathers
+        (record {
+          src = now (src .entry);
+          source = geometry;
+          settings = config;
+          workspace = now (workspace .entry);
+          at = at;
+        })
+        (now (workspace .exit))
+        ⌝ }
 {
     let Layout::Valid(_) = image::validate_layout(src.len(), geometry) else {
         return;

@@ -6,7 +6,7 @@ use Rattle.imgproc.specs.GridCalls.{gridSettings, tileCount, gridRoom}
 use Rattle.imgproc.specs.Refusals.{first}
 use Rattle.imgproc.specs.Tiles.{Sized}
 use Rattle.imgproc.specs.RefusalLaws.{then-accepted, then-refused}
-use Rattle.imgproc.proofs.grid.Ways.{sides-taken}
+use Rattle.imgproc.proofs.grid.Ways.{sides-accepted}
 use Rattle.imgproc.proofs.grid.tiles.Counts.{few, total}
 use borrow.Author.Needs.{needs}
 use Rattle.imgproc.proofs.grid.check_build.Statement.{statement}
@@ -32,7 +32,7 @@ returns c =
 sized : (c : tie.After-enum-told) → Sized (c .before .before .before .args .config) (c .before .before .before .args .geometry .width) (c .before .before .before .args .geometry .height)
 sized c =
     let s = c .before .before .before in
-    let d = sides-taken (s .args .config) (sym (c .before .before .check-settings .ensures) ∙ c .enum-told .given .1) in
+    let d = sides-accepted (s .args .config) (sym (c .before .before .check-settings .ensures) ∙ c .enum-told .given .1) in
     record { wide = s .pre .0; high = s .pre .2; small-width = s .pre .1; small-height = s .pre .3; tile-width = d .0; tile-height = d .1 }
 
 tiles-along-requires : tie.Need-tiles-along-requires

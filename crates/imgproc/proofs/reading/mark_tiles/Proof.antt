@@ -3,7 +3,7 @@ use borrow.Author.Needs.{needs}
 use native.Mathlib.Omega.{arith}
 use mathlib.Core.Path.{sym}
 use denote.Ref.{now}
-use Rattle.imgproc.proofs.reading.Runs.{prefix-long, prefix-kept, sized, marked}
+use Rattle.imgproc.proofs.reading.Runs.{prefix-long, sized, gather-ready, marked}
 use Rattle.imgproc.proofs.reading.mark_tiles.Statement.{statement}
 use Rattle.imgproc.proofs.reading.mark_tiles.Tie as tie
 
@@ -21,11 +21,7 @@ slice-aggregate-gather c =
 gather-requires : tie.Need-gather-requires
 gather-requires c κs =
     let e = c .before .before .before .before .before in
-    let a = e .args in (
-      prefix-kept (a .packed) (a .config) (now (a .bytes)) (now (a .words)) (e .pre),
-      sized (a .packed) (a .config) (now (a .bytes)) (now (a .words)) (e .pre),
-      omega (arith, e .pre .words-fit),
-    )
+    let a = e .args in gather-ready (a .packed) (a .config) (now (a .bytes)) (now (a .words)) (e .pre)
 
 mul-write-skips : tie.Need-mul-write-skips
 mul-write-skips c = search needs
