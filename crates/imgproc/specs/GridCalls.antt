@@ -1,4 +1,5 @@
--- What the calls of the tile grid refuse, answer and leave. Definitions only.
+-- The contracts of the tile grid's calls: each call's refusals, its answer and the buffers that it leaves.
+-- Definitions only.
 use Prim.Native.Nat.{ℕ, zero, suc, _+_, _*_, _/_, _≤_}
 use mathlib.Core.Path.{_≡_}
 use mathlib.Core.Bool.{Bool, true, not, _&&_, _||_}
@@ -13,7 +14,12 @@ use Rattle.image.specs.Answers.{Answer, accepted, refused}
 use Rattle.image.specs.Layout.{Kept, sideLimit}
 use Rattle.image.specs.Plane.{overwritten, picture}
 use Rattle.imgproc.specs.declared.ImgProcError.{ImgProcError}
-use Rattle.imgproc.specs.declared.ImgProcError.the-variants.{Image, InvalidConfiguration, WorkspaceTooSmall, GridBufferTooSmall}
+use Rattle.imgproc.specs.declared.ImgProcError.the-variants.{
+  Image,
+  InvalidConfiguration,
+  WorkspaceTooSmall,
+  GridBufferTooSmall,
+}
 use Rattle.imgproc.specs.declared.Check.{Check}
 use Rattle.imgproc.specs.declared.Check.the-variants.{Accepted, Refused}
 use Rattle.imgproc.specs.declared.grid.config.TileThresholdConfig.{TileThresholdConfig}
@@ -25,7 +31,10 @@ use Rattle.imgproc.specs.declared.grid.Built.the-variants.{Tiles, Refuse
 use Rattle.imgproc.specs.declared.grid.queries.TilePlace.{TilePlace}
 use Rattle.imgproc.specs.declared.grid.queries.TilePlace.the-variants.{At, Refused as TilePlace·Refused}
 use Rattle.imgproc.specs.declared.grid.queries.TileThreshold.{TileThreshold}
-use Rattle.imgproc.specs.declared.grid.queries.TileThreshold.the-variants.{Value, Refused as TileThreshold·Refused}
+use Rattle.imgproc.specs.declared.grid.queries.TileThreshold.the-variants.{
+  Value,
+  Refused as TileThreshold·Refused,
+}
 use Rattle.imgproc.specs.declared.grid.queries.TileSkip.{TileSkip}
 use Rattle.imgproc.specs.declared.grid.queries.TileSkip.the-variants.{Is, Refused as TileSkip·Refused}
 use Rattle.imgproc.specs.Reach.{ceiling}
@@ -57,7 +66,8 @@ usableMethod (Sauvola s) = usableFloats (s .k) (s .«dynamic_range»)
 -- zero tile side, or for Sauvola k or dynamic_range not finite or dynamic_range ≤ 0
 unfoldable pub gridSettings : TileThresholdConfig → Conditions
 gridSettings g =
-    refusedIf (eqb (g .«tile_width») 0 || eqb (g .«tile_height») 0 || not (usableMethod (g .method))) InvalidConfiguration
+    refusedIf (eqb (g .«tile_width») 0 || eqb (g .«tile_height») 0 || not (usableMethod (g .method)))
+    InvalidConfiguration
 
 -- t = tiles_x × tiles_y
 abbrev pub tileCount : TileThresholdConfig → ℕ → ℕ → ℕ
@@ -105,12 +115,12 @@ pub record TileCounts : Type 0 where
   pub tiles-x : ℕ
   pub tiles-y : ℕ
 
--- what `Built` says: the tile counts, or the number of the refusal
+-- `Built` says the tile counts, or the number of the refusal
 abbrev pub builtAnswer : Built → Answer TileCounts
 builtAnswer (Tiles x y) = accepted (record { tiles-x = x; tiles-y = y })
 builtAnswer (Built·Refused e) = refused (errorNumber e)
 
--- what a build with settings that are checked by a list of their own is refused for: the layout; the settings; the room
+-- a build is refused for its layout; its settings, by a list of their own; its room
 abbrev pub buildConditionsBy : Conditions → BuildLent → Conditions
 buildConditionsBy settings lent =
     viewConditions (length (lent .src)) (lent .source) then
@@ -122,10 +132,13 @@ buildConditions lent = buildConditionsBy (gridSettings (lent .settings)) lent
 
 -- the tile counts of what was lent
 abbrev pub tilesFrom : BuildLent → TileCounts
-tilesFrom lent =
-    record { tiles-x = tilesX (lent .settings) (lent .source .width); tiles-y = tilesY (lent .settings) (lent .source .height) }
+tilesFrom lent = record {
+  tiles-x = tilesX (lent .settings) (lent .source .width);
+  tiles-y = tilesY (lent .settings) (lent .source .height);
+}
 
--- a build by a list of conditions: the first t bytes of both buffers are the picture's thresholds and skips, and every other byte is as it was
+-- a build by a list of conditions: the first t bytes of both buffers are the picture's thresholds and skips, and every
+-- other byte is as it was
 pub record BuildsBy (cs : Conditions) (lent : BuildLent) (answer : Answer TileCounts) (left : BuildLeft) : Type 0 where
   pub answers : answer ≡ answerBy (first cs) (tilesFrom lent)
   pub thresholds-left : left .thresholds ≡ leftBy (first cs) (thresholdsOver lent) (lent .thresholds)
@@ -142,13 +155,13 @@ pub record Rooms (lent : BuildLent) : Type 0 where
   pub thresholds : tilesLent lent ≤ length (lent .thresholds)
   pub skips : tilesLent lent ≤ length (lent .skips)
 
--- what `fill` asks: what a build that no condition refuses is lent
+-- `fill` asks for what a build that no condition refuses is lent
 pub record FillReady (lent : BuildLent) : Type 0 where
   pub layout : Kept (length (lent .src)) (lent .source)
   pub sized : Sized (lent .settings) (lent .source .width) (lent .source .height)
   pub rooms : Rooms lent
 
--- what `fill` leaves: both buffers as an accepted build leaves them
+-- `fill` leaves both buffers as an accepted build leaves them
 pub record Fills (lent : BuildLent) (left : BuildLeft) : Type 0 where
   pub thresholds-left : left .thresholds ≡ thresholdsOver lent
   pub skips-left : left .skips ≡ skipsOver lent
@@ -201,17 +214,17 @@ unfoldable pub allSkipped : List ℕ → ℕ → ℕ → Bool
 allSkipped d i zero = true
 allSkipped d i (suc n) = allSkipped d i n && skipped d (i + n)
 
--- what `TileThreshold` says: the byte, or the number of the refusal
+-- `TileThreshold` says the byte, or the number of the refusal
 abbrev pub tileThresholdAnswer : TileThreshold → Answer ℕ
 tileThresholdAnswer (Value v) = accepted v
 tileThresholdAnswer (TileThreshold·Refused e) = refused (errorNumber e)
 
--- what `TileSkip` says: yes or no, or the number of the refusal
+-- `TileSkip` says yes or no, or the number of the refusal
 abbrev pub tileSkipAnswer : TileSkip → Answer Bool
 tileSkipAnswer (Is b) = accepted b
 tileSkipAnswer (TileSkip·Refused e) = refused (errorNumber e)
 
--- the contracts of the three queries: the stored threshold, the stored skip, and whether the whole tile row is skipped
+-- the answers of the three queries: the stored threshold, the stored skip, and whether the whole tile row is skipped
 abbrev pub thresholdAsked : TileThresholdGrid → List ℕ → ℕ → ℕ → Answer ℕ
 thresholdAsked q d x y = answerBy (first (pixelConditions q (length d) x y)) (getD d (tileOf q x y) 0)
 

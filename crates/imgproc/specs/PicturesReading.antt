@@ -1,5 +1,5 @@
--- The pictures of document 01's part 7, and two of our own with several rows and all three judgements: a part of the table
--- in Pictures. Definitions only.
+-- The pictures of document 01's part 7, and two of our own with several rows and all three judgements: a part of the
+-- table in Pictures. Definitions only.
 use mathlib.Core.List.{List, [], _∷_}
 use Prim.Native.Nat.{ℕ}
 use lib.IntN.{pos}

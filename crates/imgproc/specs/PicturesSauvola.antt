@@ -1,5 +1,5 @@
--- The pictures of document 01's part 6, and one of our own with rows, columns and clipped corners: a part of the table in
--- Pictures. Definitions only.
+-- The pictures of document 01's part 6, and one of our own with rows, columns and clipped corners: a part of the table
+-- in Pictures. Definitions only.
 use mathlib.Core.List.{List, [], _∷_}
 use Prim.Native.Nat.{ℕ}
 use lib.ListN.{replicate}

@@ -67,7 +67,7 @@ unfoldable pub binarized : SauvolaConfig → ℕ → ℕ → List ℕ → List �
 unfolding verdict
 binarized config w h p = plane w h (verdict config w h p)
 
--- what `Binarized` says: a bare success, or the number of the refusal
+-- `Binarized` says a bare success, or the number of the refusal
 abbrev pub binarizedAnswer : Binarized → Answer Bare
 binarizedAnswer Done = accepted bare
 binarizedAnswer (Binarized·Refused e) = refused (errorNumber e)

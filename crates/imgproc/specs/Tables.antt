@@ -1,5 +1,5 @@
--- Two summed-area tables of a packed picture in one workspace (sums after Crow 1984): what the inner functions of part 6
--- ask and leave. Definitions only.
+-- Two summed-area tables of a packed picture in one workspace (sums after Crow 1984): what the inner functions of
+-- part 6 ask and leave. Definitions only.
 use Prim.Native.Nat.{ℕ, _+_, _-_, _*_, _/_, _%_, _≤_, _<_}
 use mathlib.Core.Path.{_≡_}
 use mathlib.Core.List.{List}
@@ -59,21 +59,21 @@ pub record Ready (t : Tabled) : Type 0 where
   pub tables : Tables (t .src) (t .source) (t .at) (t .workspace)
   pub settings : InRange (t .settings)
 
--- what `verdict_row` asks: y is a row of the picture, and the row that it writes has the picture's width
+-- `verdict_row` asks that y is a row of the picture, and that the row it writes has the picture's width
 pub record RowReady (t : Tabled) (y : ℕ) (out : List ℕ) : Type 0 where
   pub ready : Ready t
   pub inside : y < t .source .height
   pub wide : length out ≡ t .source .width
 
--- what `binarize_rows` asks: the slice of the destination holds it, and it has the picture's sides
+-- `binarize_rows` asks that the destination lies in its slice, and has the picture's sides
 pub record RowsReady (t : Tabled) (dst : List ℕ) (target : Geometry) : Type 0 where
   pub ready : Ready t
   pub to : Kept (length dst) target
   pub wide : t .source .width ≡ target .width
   pub high : t .source .height ≡ target .height
 
--- what `binarize` asks: each slice holds its picture, the sides are equal, the settings are accepted, and both tables
--- have room
+-- `binarize` asks that both pictures lie in their slices with equal sides, that the settings are accepted, and that
+-- both tables have room
 pub record BinarizeReady (lent : Loan SauvolaConfig) : Type 0 where
   pub from : Kept (length (lent .src)) (lent .source)
   pub to : Kept (length (lent .dst)) (lent .target)
@@ -100,7 +100,7 @@ abbrev pub cornerSum : List ℕ → ℕ → ℕ → ℕ → ℕ → ℕ → ℕ 
 cornerSum ws base wide x0 y0 x1 y1 =
     entryAt ws base wide x1 y1 + entryAt ws base wide x0 y0 - (entryAt ws base wide x0 y1 + entryAt ws base wide x1 y0)
 
--- what the sums of a window of bytes are
+-- the sum S and the sum of squares Q of c bytes keep to these bounds
 pub record Sane (S Q c : ℕ) : Type 0 where
   pub some : 0 < c
   pub bright : S ≤ c * 255

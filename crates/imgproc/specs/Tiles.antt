@@ -1,4 +1,4 @@
--- The five numbers of a tile as the grid's build keeps them in its workspace, and what it makes of them.
+-- A build keeps five numbers of each tile in its workspace, joins them over neighbours and makes bytes of them.
 -- Definitions only.
 use Prim.Native.Nat.{ℕ, zero, suc, _+_, _-_, _*_, _/_, _%_, _≤_, _<_, min, max}
 use mathlib.Core.Path.{_≡_}
@@ -92,7 +92,8 @@ tileEntry at tx ws i j = entry ws (at + 5 * (j * tx) + 5 * i)
 pub record Gathered (f : ℕ → ℕ → ℕ) (g : TileThresholdConfig) (w h at : ℕ) (ws : List ℕ) : Type 0 where
   pub room : at + 5 * (tilesX g w * tilesY g h) ≤ length ws
   pub bytes : (x y : ℕ) → f x y < 256
-  pub each : (i j : ℕ) → i < tilesX g w → j < tilesY g h → tileEntry at (tilesX g w) ws i j ≡ numbersIn f (tile g w h i j)
+  pub each : (i j : ℕ) → i < tilesX g w → j < tilesY g h
+      → tileEntry at (tilesX g w) ws i j ≡ numbersIn f (tile g w h i j)
 
 -- the five numbers n stored from `at` on, and nothing else
 pub record Stores (at : ℕ) (n : TileNumbers) (before after : List ℕ) : Type 0 where
@@ -101,7 +102,7 @@ pub record Stores (at : ℕ) (n : TileNumbers) (before after : List ℕ) : Type 
   pub before-it : (i : ℕ) → i < at → getD after i 0 ≡ getD before i 0
   pub after-it : (i : ℕ) → at + 5 ≤ i → getD after i 0 ≡ getD before i 0
 
--- what `gather` is lent: a picture, the settings of a grid, and a workspace that takes the tiles' numbers from `at` on
+-- `gather` is lent a picture, the settings of a grid, and a workspace that takes the tiles' numbers from `at` on
 pub record GatherLent : Type 0 where
   pub src : List ℕ
   pub source : Geometry
@@ -115,7 +116,7 @@ module _ (lent : GatherLent) where
   gatherEnd =
       lent .at + 5 * (tilesX (lent .settings) (lent .source .width) * tilesY (lent .settings) (lent .source .height))
 
-  -- what `gather` asks: the picture lies in the slice, the tiles have sides, and their numbers have room
+  -- `gather` asks that the picture lies in the slice, that the tiles have sides, and that their numbers have room
   pub record GatherReady : Type 0 where
     pub layout : Kept (length (lent .src)) (lent .source)
     pub sized : Sized (lent .settings) (lent .source .width) (lent .source .height)
@@ -147,7 +148,8 @@ pub record Proper (n : TileNumbers) : Type 0 where
 abbrev pub joinedRows : ℕ → ℕ → List ℕ → ℕ → ℕ → ℕ → ℕ → TileNumbers
 joinedRows at tx ws from to first last = joinOver (λ b. joinOver (λ a. tileEntry at tx ws a b) from to) first last
 
--- the entries 0..to of a tile row that starts at `row` lie in the workspace, and entries a..b of them, joined, are small
+-- the entries 0..to of a tile row that starts at `row` lie in the workspace, and entries a..b of them, joined, are
+-- small
 pub record SmallRow (row to : ℕ) (ws : List ℕ) : Type 0 where
   pub room : row + 5 * to + 5 ≤ length ws
   pub each : (a b : ℕ) → a ≤ b → b ≤ to → Small (joinOver (λ i. entry ws (row + 5 * i)) a b)
@@ -170,7 +172,8 @@ joinedAround r tx ty at ws i j = joinedRows at tx ws (low r i) (high r tx i) (lo
 -- the stored threshold of a neighbourhood with the numbers n
 abbrev pub thresholdBy : TileThresholdConfig → TileNumbers → ℕ
 thresholdBy g n =
-    clipped (pos (baseOf (g .method) (n .minimum) (n .maximum) (n .sum) (n .«sum_sq») (n .count)) +ℤ g .«threshold_offset»)
+    clipped
+    (pos (baseOf (g .method) (n .minimum) (n .maximum) (n .sum) (n .«sum_sq») (n .count)) +ℤ g .«threshold_offset»)
 
 -- its stored skip
 abbrev pub skipBy : TileThresholdConfig → TileNumbers → ℕ

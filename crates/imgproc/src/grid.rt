@@ -1,4 +1,4 @@
-// The tile grid: a local threshold and a low-contrast mark for each tile of a picture, and queries about its tiles.
+// Builds the tile grid: each tile of a picture gets a local threshold and a mark for low contrast.
 pub(crate) mod base;
 pub(crate) mod bytes;
 pub mod config;
@@ -35,12 +35,13 @@ ghost use Rattle.imgproc.specs.GridCalls.{
   builtAnswer,
 };
 
-// The tile counts, or the refusal.
+// A build answers with the tile counts, or with its refusal.
 pub enum Built {
     Tiles(usize, usize),
     Refused(ImgProcError),
 }
 
+// Accepts Midrange, and Sauvola with floats that are usable.
 fn usable_method(method: TileThresholdMethod) -> bool
     ensures { λ r. ⌜ r ≡ usableMethod method ⌝ }
 {
@@ -50,7 +51,7 @@ fn usable_method(method: TileThresholdMethod) -> bool
     }
 }
 
-// Whether the settings of a grid are taken.
+// Accepts or refuses the settings of a grid.
 pub(crate) fn check_settings(config: TileThresholdConfig) -> Check
     ensures { λ r. ⌜ r ≡ first (gridSettings config) ⌝ }
 {
@@ -68,7 +69,7 @@ pub(crate) fn check_settings(config: TileThresholdConfig) -> Check
     }
 }
 
-// Whether the lent buffers hold `count` tiles.
+// Accepts lent buffers that hold `count` tiles.
 fn check_room(count: usize, room: usize, threshold_room: usize, skip_room: usize) -> Check
     requires { ⌜ count ≤ tilesLimit ⌝ }
     ensures { λ r. ⌜ r ≡ first (gridRoom count room «threshold_room» «skip_room») ⌝ }
@@ -85,7 +86,7 @@ fn check_room(count: usize, room: usize, threshold_room: usize, skip_room: usize
     Check::Accepted
 }
 
-// Whether settings and buffers are taken, for a picture whose layout is valid.
+// Accepts or refuses settings and buffers, for a picture whose layout is valid.
 fn check_build(
     geometry: Geometry,
     config: TileThresholdConfig,
@@ -93,8 +94,13 @@ fn check_build(
     threshold_room: usize,
     skip_room: usize,
 ) -> Check
-    requires { ⌜ (0 < geometry .width) × (geometry .width ≤ sideLimit) × (0 < geometry .height) × (geometry .height ≤ sideLimit) ⌝ }
-    ensures { λ r. ⌜ r ≡ first (gridSettings config then gridRoom (tileCount config (geometry .width) (geometry .height)) room «threshold_room» «skip_room») ⌝ }
+    requires { ⌜
+        (0 < geometry .width) × (geometry .width ≤ sideLimit)
+        × (0 < geometry .height) × (geometry .height ≤ sideLimit) ⌝ }
+    ensures { λ r. ⌜
+        r ≡ first
+        (gridSettings config then
+        gridRoom (tileCount config (geometry .width) (geometry .height)) room «threshold_room» «skip_room») ⌝ }
 {
     let settings = check_settings(config);
     let Check::Accepted = settings else {
@@ -105,7 +111,7 @@ fn check_build(
     check_room(tiles_x * tiles_y, room, threshold_room, skip_room)
 }
 
-// The numbers of all tiles, and from them the thresholds and the skips.
+// Gathers the numbers of all tiles, and writes the thresholds and the skips from them.
 fn fill(
     src: &[u8],
     geometry: Geometry,
@@ -151,7 +157,7 @@ fn fill(
 }
 
 impl TileThresholdGrid {
-    // The threshold and the skip of every tile of a picture, one byte each, in the first bytes of two lent buffers.
+    // Writes the threshold and the skip of every tile of a picture, one byte each, into the first bytes of two buffers.
     pub fn build(
         src: &[u8],
         geometry: Geometry,

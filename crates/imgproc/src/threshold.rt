@@ -1,4 +1,4 @@
-// Sauvola's local threshold (Sauvola and Pietikäinen 2000) in whole numbers, from the picture's summed-area tables.
+// Binarizes by Sauvola's local threshold (Sauvola and Pietikäinen 2000) in whole numbers, from summed-area tables.
 pub(crate) mod tables;
 
 use crate::Check;
@@ -37,14 +37,14 @@ pub struct SauvolaConfig {
     pub light_value: u8,
 }
 
-// The answer of a binarization.
+// A binarization answers that it is done, or with its refusal.
 pub enum Binarized {
     Done,
     Refused(ImgProcError),
 }
 
 impl SauvolaConfig {
-    // The Rust's settings.
+    // Gives the settings that the published Rust has by default.
     pub fn default() -> Self
         ensures { λ r. ⌜ r ≡ sauvolaDefaults ⌝ }
     {
@@ -58,7 +58,7 @@ impl SauvolaConfig {
     }
 }
 
-// The number of an answer: 0 where the call is done, else its refusal's.
+// Gives the number of an answer: 0 where the call is done, else its refusal's.
 pub fn binarized_number(answer: Binarized) -> u32
     ensures { λ r. ⌜ r ≡ answerNumber (binarizedAnswer answer) ⌝ }
 {
@@ -102,7 +102,7 @@ fn span_of(x: usize, radius: usize, side: usize) -> Span
     }
 }
 
-// The largest whole number whose square is at most `value`, a variance of bytes: the numbers that it may be are halved.
+// Finds the largest whole number whose square is at most `value`, a variance of bytes, by bisection.
 fn integer_sqrt(value: u64) -> u64
     requires { ⌜ value < 65536 ⌝ }
     ensures { λ r. ⌜ (r ≡ wholeRoot value) × (r < 256) ⌝ }
@@ -120,7 +120,7 @@ fn integer_sqrt(value: u64) -> u64
     low
 }
 
-// The spread of a window's pixels about their mean, from their sums.
+// Works out the spread of a window's pixels about their mean, from their sums.
 fn spread(sum: u64, sum_sq: u64, count: u64) -> u64
     requires { ⌜ Sane sum «sum_sq» count ⌝ }
     ensures { λ r. ⌜ (r ≡ spread sum «sum_sq» count) × (r < 256) ⌝ }
@@ -129,7 +129,7 @@ fn spread(sum: u64, sum_sq: u64, count: u64) -> u64
     integer_sqrt(sum_sq / count - mean * mean)
 }
 
-// The threshold of a window, from its sums.
+// Works out the threshold of a window from its sums.
 fn threshold_of(sum: u64, sum_sq: u64, count: u64, config: SauvolaConfig) -> u64
     requires { ⌜ Sane sum «sum_sq» count × InRange config ⌝ }
     ensures { λ r. ⌜ r ≡ threshold config sum «sum_sq» count ⌝ }
@@ -141,7 +141,7 @@ fn threshold_of(sum: u64, sum_sq: u64, count: u64, config: SauvolaConfig) -> u64
     mean * scale / 1000
 }
 
-// The threshold of pixel (x, y), from both tables.
+// Works out the threshold of pixel (x, y) from both tables.
 pub(crate) fn threshold_at_pixel(
     src: &[u8],
     geometry: Geometry,
@@ -176,7 +176,7 @@ pub(crate) fn threshold_at_pixel(
     threshold_of(sum, sum_sq, count as u64, config)
 }
 
-// The verdicts on row y of the source: a pixel at or below its threshold is dark.
+// Judges row y of the source: a pixel at or below its threshold is dark.
 fn verdict_row(
     src: &[u8],
     geometry: Geometry,
@@ -213,7 +213,7 @@ fn verdict_row(
     }
 }
 
-// The verdicts on a picture whose tables stand in the workspace, row by row into the destination.
+// Judges a picture whose tables stand in the workspace, and writes the verdicts into the destination's rows.
 pub(crate) fn binarize_rows(
     src: &[u8],
     geometry: Geometry,
@@ -245,7 +245,7 @@ pub(crate) fn binarize_rows(
     }
 }
 
-// Whether the settings are in range.
+// Accepts settings that are in range.
 pub(crate) fn check_settings(config: SauvolaConfig) -> Check
     ensures { λ r. ⌜ r ≡ first (sauvolaSettings config) ⌝ }
 {
@@ -261,7 +261,7 @@ pub(crate) fn check_settings(config: SauvolaConfig) -> Check
     Check::Accepted
 }
 
-// The settings, and then the room for both tables of a picture.
+// Accepts settings in range, and then a workspace that holds both tables of a picture.
 fn check_room(config: SauvolaConfig, geometry: Geometry, room: usize) -> Check
     requires { ⌜ (geometry .width ≤ sideLimit) × (geometry .height ≤ sideLimit) ⌝ }
     ensures { λ r. ⌜ r ≡ first (settingsAndRoom config geometry room) ⌝ }
@@ -276,7 +276,7 @@ fn check_room(config: SauvolaConfig, geometry: Geometry, room: usize) -> Check
     check
 }
 
-// Both tables, then the verdicts.
+// Builds both tables, then judges every pixel.
 fn binarize(
     src: &[u8],
     geometry: Geometry,

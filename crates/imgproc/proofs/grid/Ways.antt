@@ -1,4 +1,4 @@
--- What the checks of a build give where they accept. Assumes nothing.
+-- Checks of a build that accept give tile sides above 0 and buffers that hold the tiles. Assumes nothing.
 use mathlib.Core.Path.{_≡_}
 use mathlib.Core.Bool.{not, _||_}
 use Prim.Native.Nat.{_*_, _<_}

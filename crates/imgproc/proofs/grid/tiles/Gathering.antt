@@ -40,7 +40,8 @@ pub record StoredTo (n : ℕ → TileNumbers) (at t : ℕ) (before after : List 
 pub stored-none : (n : ℕ → TileNumbers) (at : ℕ) (ws : List ℕ) → StoredTo n at 0 ws ws
 stored-none n at ws = record { long = refl; each = λ k h. absurd (omega arith); before-it = λ i h. refl; after-it = λ i h. refl }
 
-pub stored-more : (n : ℕ → TileNumbers) (at t : ℕ) (ws a b : List ℕ) (v : TileNumbers) → StoredTo n at t ws a → v ≡ n t → Stores (at + 5 * t) v a b → StoredTo n at (t + 1) ws b
+pub stored-more : (n : ℕ → TileNumbers) (at t : ℕ) (ws a b : List ℕ) (v : TileNumbers) → StoredTo n at t ws a → v ≡ n t → Stores (at + 5 * t) v a b
+    → StoredTo n at (t + 1) ws b
 stored-more n at t ws a b v s e p = record {
   long = p .long ∙ s .long;
   each = λ k h. ⊎-elim

@@ -16,7 +16,8 @@ use Rattle.imgproc.proofs.threshold.binarize_rows.Tie as tie
 
 abbrev Inv-loop : tie.InvT-loop
 Inv-loop src geometry workspace at dst₀ dst-geometry config y₀ dst y =
-    RowsPainted (binarized config (geometry .width) (geometry .height) (picture src geometry)) (geometry .width) (geometry .height) (dst-geometry .stride) dst₀ dst y
+    RowsPainted (binarized config (geometry .width) (geometry .height) (picture src geometry))
+    (geometry .width) (geometry .height) (dst-geometry .stride) dst₀ dst y
 
 abbrev μ-loop : tie.MeasureT-loop
 μ-loop src geometry workspace at dst₀ dst-geometry config y₀ dst y = geometry .height - y
@@ -32,10 +33,12 @@ wide : (s : tie.Start Inv-loop μ-loop) → (0 < s .args .geometry .width) × (s
 wide s = (s .pre .ready .layout .wide, omega (arith, s .pre .to .stride, s .pre .wide))
 
 -- row y of the destination
-within : (t : tie.Then1 Inv-loop μ-loop) → t .before .before .loop .y * start t .args .dst-geometry .stride + start t .args .geometry .width ≤ length (now (start t .args .dst))
+within : (t : tie.Then1 Inv-loop μ-loop)
+    → t .before .before .loop .y * start t .args .dst-geometry .stride + start t .args .geometry .width ≤ length (now (start t .args .dst))
 within t = let s = start t in row-within-as (s .pre .to) (sym (s .pre .wide)) (sym (s .pre .high)) (t .before .before .loop .y) (t .if1 .taken)
 
-fits : (t : tie.Then1 Inv-loop μ-loop) → t .before .before .loop .y * start t .args .dst-geometry .stride + start t .args .geometry .width ≤ length (t .before .before .loop .dst)
+fits : (t : tie.Then1 Inv-loop μ-loop)
+    → t .before .before .loop .y * start t .args .dst-geometry .stride + start t .args .geometry .width ≤ length (t .before .before .loop .dst)
 fits t =
     let s = start t in
     let l = t .before .before .loop in
@@ -86,7 +89,9 @@ loop-again c =
     let g = s .args .geometry in
     rows-next (new s) _ _ _ (now (s .args .dst)) (l .y) (l .inv) (wide s .0) (wide s .1) (within t) (v .verdict-row .last .1 .1 .1 .1 .1 .1 .0)
     (v .verdict-row .kept .1 .1 .1 .1 .1 .1 .0 ∙ part-long (new s) _ _ _ (now (s .args .dst)) (l .y) (l .inv) (wide s .0) (wide s .1) (within t))
-    (λ x u. v .verdict-row .ensures x u ∙ sym (binarized-pixel (s .args .config) (g .width) (g .height) (picture (now (s .args .src)) g) x (l .y) u (t .if1 .taken)))
+    (λ x u.
+    v .verdict-row .ensures x u
+    ∙ sym (binarized-pixel (s .args .config) (g .width) (g .height) (picture (now (s .args .src)) g) x (l .y) u (t .if1 .taken)))
     (t .if1 .taken)
 
 same-length : tie.Need-same-length Inv-loop μ-loop

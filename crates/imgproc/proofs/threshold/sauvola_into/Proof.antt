@@ -21,7 +21,11 @@ first c = second c .before .before .before .before
 abbrev start : tie.Else2 → tie.Start
 start c = first c .before .before .before .before .before .before .before
 
-pair : (c : tie.Else2) → let a = start c .args in Pair (length (now (a .src))) (a .src-geometry) (length (now (a .dst))) (a .dst-geometry) (first c .before .layout .given .0 .0) (second c .before .dst-layout .given .0 .0)
+pair : (c : tie.Else2)
+    → let a = start c .args in
+    Pair (length (now (a .src))) (a .src-geometry) (length (now (a .dst))) (a .dst-geometry)
+    (first c .before .layout .given .0 .0)
+    (second c .before .dst-layout .given .0 .0)
 pair c = search pair-of
 
 validate-layout-requires : tie.Need-validate-layout-requires

@@ -28,10 +28,14 @@ long t =
     let s = start t in
     row-long (now (s .args .src)) (s .args .geometry) (s .pre .ready .layout) (s .args .y) (s .pre .inside) (t .before .before .before .row .ensures .bytes)
 
-value-is : (t : tie.Then1 Inv-loop μ-loop) → getD (now (t .before .before .before .row .result)) (t .before .before .loop .next) 0 ≡ pixelsOf (now (start t .args .src)) (start t .args .geometry) (t .before .before .loop .next) (start t .args .y)
+value-is : (t : tie.Then1 Inv-loop μ-loop)
+    → getD (now (t .before .before .before .row .result)) (t .before .before .loop .next) 0
+    ≡ pixelsOf (now (start t .args .src)) (start t .args .geometry) (t .before .before .loop .next) (start t .args .y)
 value-is t =
     let s = start t in
-    row-picture (now (s .args .src)) (s .args .geometry) (s .pre .ready .layout) (s .args .y) (s .pre .inside) (t .before .before .before .row .ensures .bytes) (t .before .before .loop .next) (t .if1 .taken)
+    row-picture (now (s .args .src)) (s .args .geometry) (s .pre .ready .layout) (s .args .y) (s .pre .inside)
+    (t .before .before .before .row .ensures .bytes)
+    (t .before .before .loop .next) (t .if1 .taken)
 
 row-requires : tie.Need-row-requires Inv-loop μ-loop
 row-requires c κs = tt
@@ -65,7 +69,9 @@ loop-again c =
     let s = start t in
     let a = s .args in
     let g = a .geometry in
-    filled-more (λ x. verdict (a .config) (g .width) (g .height) (picture (now (a .src)) g) x (a .y)) (g .width) (now (a .out)) (l .out) (l .next) _ (s .pre .wide) (l .inv) (t .if1 .taken)
+    filled-more
+    (λ x. verdict (a .config) (g .width) (g .height) (picture (now (a .src)) g) x (a .y)) (g .width)
+    (now (a .out)) (l .out) (l .next) _ (s .pre .wide) (l .inv) (t .if1 .taken)
     (verdict-dark (a .config) (g .width) (g .height) (picture (now (a .src)) g) (l .next) (a .y) (value-is t) (h .threshold-at-pixel .ensures) (c .if2 .taken))
 
 slice-write-out-2 : tie.Need-slice-write-out-2 Inv-loop μ-loop
@@ -82,7 +88,9 @@ loop-again-2 c =
     let s = start t in
     let a = s .args in
     let g = a .geometry in
-    filled-more (λ x. verdict (a .config) (g .width) (g .height) (picture (now (a .src)) g) x (a .y)) (g .width) (now (a .out)) (l .out) (l .next) _ (s .pre .wide) (l .inv) (t .if1 .taken)
+    filled-more
+    (λ x. verdict (a .config) (g .width) (g .height) (picture (now (a .src)) g) x (a .y)) (g .width)
+    (now (a .out)) (l .out) (l .next) _ (s .pre .wide) (l .inv) (t .if1 .taken)
     (verdict-light (a .config) (g .width) (g .height) (picture (now (a .src)) g) (l .next) (a .y) (value-is t) (h .threshold-at-pixel .ensures) (c .if2 .left))
 
 same-length : tie.Need-same-length Inv-loop μ-loop

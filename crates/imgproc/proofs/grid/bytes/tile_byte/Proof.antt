@@ -20,11 +20,13 @@ skip-requires c κs = search needs
 
 returns : tie.Need-returns
 returns c =
-    let a = c .before .before .before .args in c .threshold .ensures ∙ ap (λ (k : TileByte). byteBy k (a .config) (a .numbers)) (sym (c .before .enum-told .given .1))
+    let a = c .before .before .before .args in
+    c .threshold .ensures ∙ ap (λ (k : TileByte). byteBy k (a .config) (a .numbers)) (sym (c .before .enum-told .given .1))
 
 returns-2 : tie.Need-returns-2
 returns-2 c =
-    let a = c .before .before .before .args in c .skip .ensures ∙ ap (λ (k : TileByte). byteBy k (a .config) (a .numbers)) (sym (c .before .enum-told2 .given .1))
+    let a = c .before .before .before .args in
+    c .skip .ensures ∙ ap (λ (k : TileByte). byteBy k (a .config) (a .numbers)) (sym (c .before .enum-told2 .given .1))
 
 pub tile-byte-spec : {M : Type 1} → statement M
 tile-byte-spec =
