@@ -58,7 +58,7 @@ fn midrange(minimum: u8, maximum: u8) -> u8
 }
 
 // Works out the base of a threshold from the numbers of its pixels.
-pub(crate) fn base(method: TileThresholdMethod, numbers: TileNumbers) -> u8
+pub(crate) fn base_of(method: TileThresholdMethod, numbers: TileNumbers) -> u8
     requires { ⌜ Small numbers ⌝ }
     ensures { λ r. ⌜
         r ≡ baseOf method

@@ -17,15 +17,16 @@ pub enum TileByte {
     Skip,
 }
 
-fn threshold(config: TileThresholdConfig, numbers: TileNumbers) -> u8
+fn threshold_byte(config: TileThresholdConfig, numbers: TileNumbers) -> u8
     requires { ⌜ Proper numbers ⌝ }
     ensures { λ r. ⌜ r ≡ byteBy TileByte.Threshold config numbers ⌝ }
 {
     let method = config.method;
-    base::stored(base::base(method, numbers), config.threshold_offset)
+    base::stored(base::base_of(method, numbers), config.threshold_offset)
 }
 
-fn skip(config: TileThresholdConfig, numbers: TileNumbers) -> u8
+// Marks a tile whose contrast is below the floor.
+fn skip_byte(config: TileThresholdConfig, numbers: TileNumbers) -> u8
     requires { ⌜ Proper numbers ⌝ }
     ensures { λ r. ⌜ r ≡ byteBy TileByte.Skip config numbers ⌝ }
 {
@@ -41,8 +42,8 @@ fn tile_byte(which: TileByte, config: TileThresholdConfig, numbers: TileNumbers)
     ensures { λ r. ⌜ r ≡ byteBy which config numbers ⌝ }
 {
     match which {
-        TileByte::Threshold => threshold(config, numbers),
-        TileByte::Skip => skip(config, numbers),
+        TileByte::Threshold => threshold_byte(config, numbers),
+        TileByte::Skip => skip_byte(config, numbers),
     }
 }
 
