@@ -1,6 +1,6 @@
 -- The contracts of the tile grid's calls: each call's refusals, its answer and the buffers that it leaves.
 -- Definitions only.
-use Prim.Native.Nat.{ℕ, zero, suc, _+_, _*_, _/_, _≤_}
+use Prim.Native.Nat.{ℕ, zero, suc, _+_, _*_, _/_}
 use mathlib.Core.Path.{_≡_}
 use mathlib.Core.Bool.{Bool, true, not, _&&_, _||_}
 use mathlib.Core.List.{List}
@@ -11,7 +11,7 @@ use lib.Ieee.Scale.{finite}
 use Rattle.image.specs.declared.Geometry.{Geometry}
 use Rattle.image.specs.declared.LumaError.the-variants.{OutsidePicture}
 use Rattle.image.specs.Answers.{Answer, accepted, refused}
-use Rattle.image.specs.Layout.{Kept, sideLimit}
+use Rattle.image.specs.Layout.{sideLimit}
 use Rattle.image.specs.Plane.{overwritten, picture}
 use Rattle.imgproc.specs.declared.ImgProcError.{ImgProcError}
 use Rattle.imgproc.specs.declared.ImgProcError.the-variants.{
@@ -39,7 +39,6 @@ use Rattle.imgproc.specs.declared.grid.queries.TileSkip.{TileSkip}
 use Rattle.imgproc.specs.declared.grid.queries.TileSkip.the-variants.{Is, Refused as TileSkip·Refused}
 use Rattle.imgproc.specs.Reach.{ceiling}
 use Rattle.imgproc.specs.Grid.{tilesX, tilesY, nought, thresholds, skips}
-use Rattle.imgproc.specs.Tiles.{Sized}
 use Rattle.imgproc.specs.Refusals.{
   errorNumber,
   Conditions,
@@ -148,24 +147,6 @@ pub record BuildsBy (cs : Conditions) (lent : BuildLent) (answer : Answer TileCo
 -- the contract of `build`
 abbrev pub Builds : BuildLent → Answer TileCounts → BuildLeft → Type 0
 Builds lent = BuildsBy (buildConditions lent) lent
-
--- the lent buffers hold t tiles
-pub record Rooms (lent : BuildLent) : Type 0 where
-  pub workspace : 5 * tilesLent lent ≤ length (lent .workspace)
-  pub thresholds : tilesLent lent ≤ length (lent .thresholds)
-  pub skips : tilesLent lent ≤ length (lent .skips)
-
--- `fill` asks for what a build that no condition refuses is lent
-pub record FillReady (lent : BuildLent) : Type 0 where
-  pub layout : Kept (length (lent .src)) (lent .source)
-  pub sized : Sized (lent .settings) (lent .source .width) (lent .source .height)
-  pub rooms : Rooms lent
-
--- `fill` leaves both buffers as an accepted build leaves them
-pub record Fills (lent : BuildLent) (left : BuildLeft) : Type 0 where
-  pub thresholds-left : left .thresholds ≡ thresholdsOver lent
-  pub skips-left : left .skips ≡ skipsOver lent
-  pub long : length (left .workspace) ≡ length (lent .workspace)
 
 -- ---- queries
 

@@ -15,6 +15,7 @@ use Rattle.imgproc.specs.Fold.{Box, bit, foldOver}
 use Rattle.imgproc.specs.Reach.{low, high}
 use Rattle.imgproc.specs.Sums.{sum, sumSquares, count}
 use Rattle.imgproc.specs.Grid.{tilesX, tilesY, tileFrom, tileTo, least, most, baseOf, clipped}
+use Rattle.imgproc.specs.GridCalls.{BuildLent, BuildLeft, tilesLent, thresholdsOver, skipsOver}
 
 -- a picture and tile sides that a grid can be built over
 pub record Sized (g : TileThresholdConfig) (w h : ℕ) : Type 0 where
@@ -184,3 +185,23 @@ abbrev pub eachTile : (TileNumbers → ℕ) → TileThresholdConfig → ℕ → 
 eachTile by g w h at ws =
     let around = joinedAround (g .«neighborhood_radius») (tilesX g w) (tilesY g h) at ws in
     tabulate (λ t. by (around (t % tilesX g w) (t / tilesX g w))) (tilesX g w * tilesY g h)
+
+-- ---- `fill` of a build
+
+-- the lent buffers hold t tiles
+pub record Rooms (lent : BuildLent) : Type 0 where
+  pub workspace : 5 * tilesLent lent ≤ length (lent .workspace)
+  pub thresholds : tilesLent lent ≤ length (lent .thresholds)
+  pub skips : tilesLent lent ≤ length (lent .skips)
+
+-- `fill` asks for what a build that no condition refuses is lent
+pub record FillReady (lent : BuildLent) : Type 0 where
+  pub layout : Kept (length (lent .src)) (lent .source)
+  pub sized : Sized (lent .settings) (lent .source .width) (lent .source .height)
+  pub rooms : Rooms lent
+
+-- `fill` leaves both buffers as an accepted build leaves them
+pub record Fills (lent : BuildLent) (left : BuildLeft) : Type 0 where
+  pub thresholds-left : left .thresholds ≡ thresholdsOver lent
+  pub skips-left : left .skips ≡ skipsOver lent
+  pub long : length (left .workspace) ≡ length (lent .workspace)

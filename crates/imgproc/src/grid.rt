@@ -24,16 +24,8 @@ ghost use Prim.Native.Nat.{_*_, _≤_, _<_};
 ghost use Rattle.image.specs.Layout.{sideLimit};
 ghost use Rattle.imgproc.specs.Refusals.{first, _then_};
 ghost use Rattle.imgproc.specs.Grid.{tilesLimit};
-ghost use Rattle.imgproc.specs.GridCalls.{
-  usableMethod,
-  gridSettings,
-  tileCount,
-  gridRoom,
-  FillReady,
-  Fills,
-  Builds,
-  builtAnswer,
-};
+ghost use Rattle.imgproc.specs.GridCalls.{usableMethod, gridSettings, tileCount, gridRoom, Builds, builtAnswer};
+ghost use Rattle.imgproc.specs.Tiles.{FillReady, Fills};
 
 // A build answers with the tile counts, or with its refusal.
 pub enum Built {

@@ -14,15 +14,8 @@ use Rattle.imgproc.specs.declared.ImgProcError.the-variants.{Image}
 use Rattle.imgproc.specs.declared.Check.{Check}
 use Rattle.imgproc.specs.declared.Check.the-variants.{Accepted, Refused}
 use Rattle.imgproc.specs.Grid.{tilesX, tilesY}
-use Rattle.imgproc.specs.GridCalls.{
-  gridSettings,
-  BuildLent,
-  BuildLeft,
-  buildConditions,
-  Builds,
-  FillReady,
-  Fills,
-}
+use Rattle.imgproc.specs.GridCalls.{gridSettings, BuildLent, BuildLeft, buildConditions, Builds}
+use Rattle.imgproc.specs.Tiles.{FillReady, Fills}
 use Rattle.imgproc.specs.Refusals.{errorNumber, Conditions, first, _then_, viewConditions}
 use Rattle.imgproc.specs.RefusalLaws.{then-accepted, then-refused, both-accepted, view-refused, view-accepted}
 use Rattle.imgproc.proofs.grid.Ways.{roomOf, sides-accepted, room-accepted}

@@ -10,7 +10,8 @@ use Rattle.image.specs.LayoutLaws.{neither}
 use Rattle.imgproc.specs.declared.ImgProcError.the-variants.{InvalidConfiguration, WorkspaceTooSmall, GridBufferTooSmall}
 use Rattle.imgproc.specs.declared.Check.the-variants.{Accepted}
 use Rattle.imgproc.specs.declared.grid.config.TileThresholdConfig.{TileThresholdConfig}
-use Rattle.imgproc.specs.GridCalls.{usableMethod, gridSettings, gridRoom, BuildLent, tilesLent, Rooms}
+use Rattle.imgproc.specs.GridCalls.{usableMethod, gridSettings, gridRoom, BuildLent, tilesLent}
+use Rattle.imgproc.specs.Tiles.{Rooms}
 use Rattle.imgproc.specs.Refusals.{Conditions, first, refusedIf}
 use Rattle.imgproc.specs.RefusalLaws.{both-accepted, not-refused}
 

@@ -3,7 +3,6 @@ use Prim.Native.Nat.{ℕ, _-_, _/_, _%_, _≤_}
 use mathlib.Core.Path.{ap, _∙_}
 use native.Mathlib.Omega.{arith}
 use Rattle.image.specs.Plane.{pixel}
-use Rattle.imgproc.specs.Grid.{tilesX}
 use Rattle.imgproc.specs.Tiles.{numbersIn, tile}
 use Rattle.imgproc.proofs.grid.tiles.Counts.{total, some, few, column, row}
 use Rattle.imgproc.proofs.grid.tiles.Gathering.{tilesOf, StoredTo, stored-none, stored-more, gathered-all}
