@@ -8,6 +8,7 @@ use Prim.Native.Nat.{ℕ, _+_, _-_, _*_, _/_, _≤_, _<_, min}
 use lib.ListN.{length, getD}
 use Rattle.image.specs.Plane.{part}
 use Rattle.imgproc.specs.declared.morphology.tally.Tally.{Tally}
+use Rattle.imgproc.specs.declared.morphology.sweeps.Planes.{Planes}
 use Rattle.imgproc.specs.Tallies.{Raised, HasRoom}
 use Rattle.imgproc.specs.Extremes.{Extreme, Between}
 use Rattle.imgproc.specs.Reach.{low, high, radius, reachFrom, reachTo, walk, forwardAt, backwardAt, joinAt, lineWalks, rectWalks, sweepWalks}
@@ -104,80 +105,88 @@ BackwardPassed tally d from to k w h least raised d′ = Passed (λ x. Backwards
 abbrev pub JoinPassed : Tally → List ℕ → ℕ → ℕ → ℕ → ℕ → ℕ → ℕ → Bool → Tally → List ℕ → Type 0
 JoinPassed tally d suffix prefix to k w h least raised d′ = Passed (λ x. Joins (extreme least) k h (lane d suffix w x) (lane d prefix w x)) joinAt tally d to w h raised d′
 
+-- the number of samples of each plane
+abbrev pub area : Planes → ℕ
+area p = p .width * p .height
+
+-- the planes of a sweep that reads the plane that it writes
+abbrev pub inPlace : Planes → Planes
+inPlace p = record { from = p .to; to = p .to; spare = p .spare; width = p .width; height = p .height }
+
 -- what a sweep of lanes side by side asks: the planes and 2wh of scratch in the workspace, the scratch apart from both planes, and room in the tally
-pub record LinesReady (tally : Tally) (d : List ℕ) (from to spare k w h : ℕ) : Type 0 where
-  pub source : from + w * h ≤ length d
-  pub target : to + w * h ≤ length d
-  pub scratch : spare + 2 * (w * h) ≤ length d
-  pub source-apart : Apart from (w * h) spare (2 * (w * h))
-  pub target-apart : Apart to (w * h) spare (2 * (w * h))
+pub record LinesReady (tally : Tally) (d : List ℕ) (p : Planes) (k : ℕ) : Type 0 where
+  pub source : p .from + area p ≤ length d
+  pub target : p .to + area p ≤ length d
+  pub scratch : p .spare + 2 * area p ≤ length d
+  pub source-apart : Apart (p .from) (area p) (p .spare) (2 * area p)
+  pub target-apart : Apart (p .to) (area p) (p .spare) (2 * area p)
   pub kernel : 0 < k
-  pub room : HasRoom tally (3 * (w * h))
+  pub room : HasRoom tally (3 * area p)
 
 -- each of w lanes of h samples swept: at each sample the extreme of its reach, the walks of each lane counted, and nothing changed but the plane at `to` and the scratch
-pub record LinesSwept (tally : Tally) (d : List ℕ) (from to spare k w h : ℕ) (least : Bool) (raised : Tally) (d′ : List ℕ) : Type 0 where
-  pub each : (x y : ℕ) → x < w → y < h → Reached (Before least) k h (lane d from w x) y (lane d′ to w x y)
-  pub counted : Raised tally (w * lineWalks k h) raised
-  pub kept : Spared to (w * h) spare (2 * (w * h)) d d′
+pub record LinesSwept (tally : Tally) (d : List ℕ) (p : Planes) (k : ℕ) (least : Bool) (raised : Tally) (d′ : List ℕ) : Type 0 where
+  pub each : (x y : ℕ) → x < p .width → y < p .height → Reached (Before least) k (p .height) (lane d (p .from) (p .width) x) y (lane d′ (p .to) (p .width) x y)
+  pub counted : Raised tally (p .width * lineWalks k (p .height)) raised
+  pub kept : Spared (p .to) (area p) (p .spare) (2 * area p) d d′
 
 -- what a sweep of rows or of columns asks: two planes, which are one or lie apart, and 3wh of scratch apart from both
-pub record SweepReady (tally : Tally) (d : List ℕ) (from to spare k w h : ℕ) : Type 0 where
-  pub source : from + w * h ≤ length d
-  pub target : to + w * h ≤ length d
-  pub scratch : spare + 3 * (w * h) ≤ length d
-  pub source-apart : Apart from (w * h) spare (3 * (w * h))
-  pub target-apart : Apart to (w * h) spare (3 * (w * h))
-  pub planes : (from ≡ to) ⊎ Apart from (w * h) to (w * h)
+pub record SweepReady (tally : Tally) (d : List ℕ) (p : Planes) (k : ℕ) : Type 0 where
+  pub source : p .from + area p ≤ length d
+  pub target : p .to + area p ≤ length d
+  pub scratch : p .spare + 3 * area p ≤ length d
+  pub source-apart : Apart (p .from) (area p) (p .spare) (3 * area p)
+  pub target-apart : Apart (p .to) (area p) (p .spare) (3 * area p)
+  pub planes : (p .from ≡ p .to) ⊎ Apart (p .from) (area p) (p .to) (area p)
   pub kernel : 0 < k
-  pub room : HasRoom tally (3 * (w * h))
+  pub room : HasRoom tally (3 * area p)
 
 -- each of h rows of w swept
-pub record RowsSwept (tally : Tally) (d : List ℕ) (from to spare k w h : ℕ) (least : Bool) (raised : Tally) (d′ : List ℕ) : Type 0 where
-  pub each : (x y : ℕ) → x < w → y < h → Reached (Before least) k w (λ i. lane d from w i y) x (lane d′ to w x y)
-  pub counted : Raised tally (h * lineWalks k w) raised
-  pub kept : Spared to (w * h) spare (3 * (w * h)) d d′
+pub record RowsSwept (tally : Tally) (d : List ℕ) (p : Planes) (k : ℕ) (least : Bool) (raised : Tally) (d′ : List ℕ) : Type 0 where
+  pub each : (x y : ℕ) → x < p .width → y < p .height → Reached (Before least) k (p .width) (λ i. lane d (p .from) (p .width) i y) x (lane d′ (p .to) (p .width) x y)
+  pub counted : Raised tally (p .height * lineWalks k (p .width)) raised
+  pub kept : Spared (p .to) (area p) (p .spare) (3 * area p) d d′
 
 -- each of w columns of h swept
-pub record ColumnsSwept (tally : Tally) (d : List ℕ) (from to spare k w h : ℕ) (least : Bool) (raised : Tally) (d′ : List ℕ) : Type 0 where
-  pub each : (x y : ℕ) → x < w → y < h → Reached (Before least) k h (lane d from w x) y (lane d′ to w x y)
-  pub counted : Raised tally (w * lineWalks k h) raised
-  pub kept : Spared to (w * h) spare (3 * (w * h)) d d′
+pub record ColumnsSwept (tally : Tally) (d : List ℕ) (p : Planes) (k : ℕ) (least : Bool) (raised : Tally) (d′ : List ℕ) : Type 0 where
+  pub each : (x y : ℕ) → x < p .width → y < p .height → Reached (Before least) k (p .height) (lane d (p .from) (p .width) x) y (lane d′ (p .to) (p .width) x y)
+  pub counted : Raised tally (p .width * lineWalks k (p .height)) raised
+  pub kept : Spared (p .to) (area p) (p .spare) (3 * area p) d d′
 
 -- what an erosion or a dilation asks: what its sweeps ask, and room in the tally for both
-pub record MorphReady (tally : Tally) (d : List ℕ) (from to spare kw kh w h : ℕ) : Type 0 where
-  pub rows : SweepReady tally d from to spare kw w h
+pub record MorphReady (tally : Tally) (d : List ℕ) (p : Planes) (kw kh : ℕ) : Type 0 where
+  pub rows : SweepReady tally d p kw
   pub columns : 0 < kh
-  pub wide : 0 < w
-  pub room : HasRoom tally (6 * (w * h))
+  pub wide : 0 < p .width
+  pub room : HasRoom tally (6 * area p)
 
 -- an erosion or a dilation of the packed plane at `from`, left at `to`
-pub record Morphed (tally : Tally) (d : List ℕ) (from to spare kw kh w h : ℕ) (least : Bool) (raised : Tally) (d′ : List ℕ) : Type 0 where
-  pub leaves : part to (w * h) d′ ≡ sweptRect (extreme least) kw kh w h (part from (w * h) d)
-  pub counted : Raised tally (rectWalks kw kh w h) raised
-  pub kept : Spared to (w * h) spare (3 * (w * h)) d d′
+pub record Morphed (tally : Tally) (d : List ℕ) (p : Planes) (kw kh : ℕ) (least : Bool) (raised : Tally) (d′ : List ℕ) : Type 0 where
+  pub leaves : part (p .to) (area p) d′ ≡ sweptRect (extreme least) kw kh (p .width) (p .height) (part (p .from) (area p) d)
+  pub counted : Raised tally (rectWalks kw kh (p .width) (p .height)) raised
+  pub kept : Spared (p .to) (area p) (p .spare) (3 * area p) d d′
 
 -- what two of them ask, the second of what the first left: what the first asks, and room in the tally for all four sweeps
-pub record PairReady (tally : Tally) (d : List ℕ) (from to spare kw kh w h : ℕ) : Type 0 where
-  pub once : MorphReady tally d from to spare kw kh w h
-  pub room : HasRoom tally (12 * (w * h))
+pub record PairReady (tally : Tally) (d : List ℕ) (p : Planes) (kw kh : ℕ) : Type 0 where
+  pub once : MorphReady tally d p kw kh
+  pub room : HasRoom tally (12 * area p)
 
 -- two of them, of the sides `one` and `two`, of the packed plane at `from`, left at `to`
-pub record PairMorphed (tally : Tally) (d : List ℕ) (from to spare kw kh w h : ℕ) (one two : Bool) (raised : Tally) (d′ : List ℕ) : Type 0 where
-  pub leaves : part to (w * h) d′ ≡ sweptRect (extreme two) kw kh w h (sweptRect (extreme one) kw kh w h (part from (w * h) d))
-  pub counted : Raised tally (2 * rectWalks kw kh w h) raised
-  pub kept : Spared to (w * h) spare (3 * (w * h)) d d′
+pub record PairMorphed (tally : Tally) (d : List ℕ) (p : Planes) (kw kh : ℕ) (one two : Bool) (raised : Tally) (d′ : List ℕ) : Type 0 where
+  pub leaves : part (p .to) (area p) d′ ≡ sweptRect (extreme two) kw kh (p .width) (p .height) (sweptRect (extreme one) kw kh (p .width) (p .height) (part (p .from) (area p) d))
+  pub counted : Raised tally (2 * rectWalks kw kh (p .width) (p .height)) raised
+  pub kept : Spared (p .to) (area p) (p .spare) (3 * area p) d d′
 
 -- what an opening or a closing asks
-pub record TwiceReady (tally : Tally) (d : List ℕ) (from to spare k w h : ℕ) : Type 0 where
-  pub rows : SweepReady tally d from to spare k w h
-  pub wide : 0 < w
-  pub room : HasRoom tally (12 * (w * h))
+pub record TwiceReady (tally : Tally) (d : List ℕ) (p : Planes) (k : ℕ) : Type 0 where
+  pub rows : SweepReady tally d p k
+  pub wide : 0 < p .width
+  pub room : HasRoom tally (12 * area p)
 
 -- an opening (`made` is `opened`) or a closing of the packed plane at `from`, left at `to`
-pub record TwiceMorphed (made : ℕ → ℕ → ℕ → List ℕ → List ℕ) (tally : Tally) (d : List ℕ) (from to spare k w h : ℕ) (raised : Tally) (d′ : List ℕ) : Type 0 where
-  pub leaves : part to (w * h) d′ ≡ made k w h (part from (w * h) d)
-  pub counted : Raised tally (2 * sweepWalks k w h) raised
-  pub kept : Spared to (w * h) spare (3 * (w * h)) d d′
+pub record TwiceMorphed (made : ℕ → ℕ → ℕ → List ℕ → List ℕ) (tally : Tally) (d : List ℕ) (p : Planes) (k : ℕ) (raised : Tally) (d′ : List ℕ) : Type 0 where
+  pub leaves : part (p .to) (area p) d′ ≡ made k (p .width) (p .height) (part (p .from) (area p) d)
+  pub counted : Raised tally (2 * sweepWalks k (p .width) (p .height)) raised
+  pub kept : Spared (p .to) (area p) (p .spare) (3 * area p) d d′
 
 -- a plane of `rows` rows of `columns` turned: its columns are the rows of the plane at `to`
 pub record TurnReady (d : List ℕ) (from to rows columns : ℕ) : Type 0 where

@@ -11,6 +11,7 @@ use crate::grid::tiles::gather;
 use crate::grid::tiles::tiles_along;
 use crate::illumination::flatten;
 use crate::morphology::rect::open_rect_into;
+use crate::morphology::sweeps::Planes;
 use crate::morphology::tally::Tally;
 use crate::morphology::tally::start;
 use crate::reading::judging::judge_picture;
@@ -53,7 +54,14 @@ fn flatten_and_open(
     let kernel = config.opening_kernel;
     let division = config.division;
     let raised = flatten(tally, src, geometry, division, bytes);
-    open_rect_into(raised, bytes, plane, 0, spare, kernel, width, height)
+    let planes = Planes {
+        from: plane,
+        to: 0,
+        spare,
+        width,
+        height,
+    };
+    open_rect_into(raised, bytes, planes, kernel)
 }
 
 // The skips of the opened picture's tiles, after nine planes of the workspace.

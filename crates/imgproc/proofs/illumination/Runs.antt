@@ -21,7 +21,7 @@ use Rattle.imgproc.specs.Refusals.{first, divisionSettings}
 use Rattle.imgproc.specs.Division.{quotient, dividedBy, divided, FlattenReady, Flattened, DivideReady, Divided}
 use Rattle.image.specs.LayoutLaws.{area-small}
 use Rattle.image.specs.CopyLaws.{packs-plane, unpacks-done}
-use Rattle.imgproc.proofs.morphology.Runs.{twice-ready}
+use Rattle.imgproc.proofs.morphology.Runs.{firstToSecond, twice-ready}
 
 pub length-divided : (d : BackgroundDivideConfig) (w h : ℕ) (p c : List ℕ) → length (dividedBy d w h p c) ≡ w * h
 unfolding dividedBy
@@ -33,7 +33,7 @@ module _ (tally : Tally) (src : List ℕ) (g : Geometry) (d : BackgroundDivideCo
   plane : (length first ≡ length ws) × (part 0 (g .width * g .height) first ≡ picture src g)
   plane = packs-plane (ready .from) (omega (arith, ready .fits)) pack
 
-  pub close-ready : TwiceReady tally first 0 (g .width * g .height) (2 * (g .width * g .height)) (d .«structuring_element») (g .width) (g .height)
+  pub close-ready : TwiceReady tally first (firstToSecond (g .width) (g .height)) (d .«structuring_element»)
   close-ready = twice-ready (record {
     fits = omega (arith, plane .0, ready .fits);
     kernel = ready .kernel;
@@ -41,7 +41,8 @@ module _ (tally : Tally) (src : List ℕ) (g : Geometry) (d : BackgroundDivideCo
     room = ready .room;
   })
 
-  module _ (raised : Tally) (second : List ℕ) (close : TwiceMorphed closed tally first 0 (g .width * g .height) (2 * (g .width * g .height)) (d .«structuring_element») (g .width) (g .height) raised second) where
+  module _ (raised : Tally) (second : List ℕ)
+      (close : TwiceMorphed closed tally first (firstToSecond (g .width) (g .height)) (d .«structuring_element») raised second) where
     pub close-long : length second ≡ length ws
     close-long = close .kept .long ∙ plane .0
 

@@ -10,6 +10,7 @@ use Rattle.image.specs.Answers.{Answer, Bare}
 use Rattle.image.specs.Plane.{picture, painted, part}
 use Rattle.image.specs.Copy.{Packs, Unpacks}
 use Rattle.imgproc.specs.declared.morphology.tally.Tally.{Tally}
+use Rattle.imgproc.specs.declared.morphology.sweeps.Planes.{Planes}
 use Rattle.imgproc.specs.Tallies.{room-part}
 use Rattle.imgproc.specs.declared.morphology.Operation.{Operation}
 use Rattle.imgproc.specs.Sweeps.{MorphReady, TwiceReady}
@@ -18,7 +19,10 @@ use Rattle.image.specs.LayoutLaws.{area-small}
 use Rattle.image.specs.CopyLaws.{packs-plane, unpacks-done}
 
 -- ---- the planes of an operation: the first, the second, and the scratch after them
-pub once-ready : {t : Tally} {d : List ℕ} {k w h : ℕ} → OperateReady t d k w h → MorphReady t d 0 (w * h) (2 * (w * h)) k k w h
+abbrev pub firstToSecond : ℕ → ℕ → Planes
+firstToSecond w h = record { from = 0; to = w * h; spare = 2 * (w * h); width = w; height = h }
+
+pub once-ready : {t : Tally} {d : List ℕ} {k w h : ℕ} → OperateReady t d k w h → MorphReady t d (firstToSecond w h) k k
 once-ready p = record {
   rows = record {
     source = omega (arith, p .fits);
@@ -35,7 +39,7 @@ once-ready p = record {
   room = room-part (p .room) (omega arith);
 }
 
-pub twice-ready : {t : Tally} {d : List ℕ} {k w h : ℕ} → OperateReady t d k w h → TwiceReady t d 0 (w * h) (2 * (w * h)) k w h
+pub twice-ready : {t : Tally} {d : List ℕ} {k w h : ℕ} → OperateReady t d k w h → TwiceReady t d (firstToSecond w h) k
 twice-ready p = record { rows = once-ready p .rows; wide = p .wide; room = p .room }
 
 -- ---- packed, operated on, painted

@@ -14,6 +14,16 @@ ghost use Rattle.imgproc.specs.Tallies.{HasRoom};
 ghost use Rattle.imgproc.specs.Compared.{Compares, extreme};
 ghost use Rattle.imgproc.specs.Sweeps.{lane, Apart, Rowed, LanesReady, LanesMet, PassReady, JoinReady, ForwardPassed, BackwardPassed, JoinPassed, LinesReady, LinesSwept, TurnReady, Turned, SweepReady, RowsSwept};
 
+// Where a sweep works, as offsets of one workspace: the plane that it reads, the plane that it writes, and its scratch;
+// and the sides of both planes.
+pub(crate) struct Planes {
+    pub from: usize,
+    pub to: usize,
+    pub spare: usize,
+    pub width: usize,
+    pub height: usize,
+}
+
 // The lesser of two samples where `least` is true, else the greater.
 fn extreme(tally: Tally, a: u8, b: u8, least: bool) -> Met
     requires { ⌜ HasRoom tally 1 ⌝ }
@@ -171,21 +181,31 @@ fn join_pass(
 pub(crate) fn running_extremum_1d(
     tally: Tally,
     ws: &mut [u8],
-    from: usize,
-    to: usize,
-    spare: usize,
+    planes: Planes,
     kernel: usize,
-    width: usize,
-    height: usize,
     least: bool,
 ) -> Tally
-    requires { ⌜ LinesReady tally (now ws) from to spare kernel width height ⌝ }
-    ensures { λ r. ⌜ LinesSwept tally (now (ws .entry)) from to spare kernel width height least r (now (ws .exit)) ⌝ }
+    requires { ⌜ LinesReady tally (now ws) planes kernel ⌝ }
+    ensures { λ r. ⌜ LinesSwept tally (now (ws .entry)) planes kernel least r (now (ws .exit)) ⌝ }
 {
+    let from = planes.from;
+    let spare = planes.spare;
+    let width = planes.width;
+    let height = planes.height;
     let suffix = spare + width * height;
     let a = forward_pass(tally, ws, from, spare, kernel, width, height, least);
     let b = backward_pass(a, ws, from, suffix, kernel, width, height, least);
-    join_pass(b, ws, suffix, spare, to, kernel, width, height, least)
+    join_pass(
+        b,
+        ws,
+        suffix,
+        spare,
+        planes.to,
+        kernel,
+        width,
+        height,
+        least,
+    )
 }
 
 // Column x of a plane whose rows are `step` long, as a row of `count` samples.
@@ -227,20 +247,26 @@ pub(crate) fn strip_of(left: usize) -> usize
 pub(crate) fn sweep_strip(
     tally: Tally,
     ws: &mut [u8],
-    from: usize,
-    to: usize,
-    spare: usize,
+    planes: Planes,
     kernel: usize,
-    width: usize,
-    height: usize,
     least: bool,
 ) -> Tally
-    requires { ⌜ SweepReady tally (now ws) from to spare kernel width height ⌝ }
-    ensures { λ r. ⌜ RowsSwept tally (now (ws .entry)) from to spare kernel width height least r (now (ws .exit)) ⌝ }
+    requires { ⌜ SweepReady tally (now ws) planes kernel ⌝ }
+    ensures { λ r. ⌜ RowsSwept tally (now (ws .entry)) planes kernel least r (now (ws .exit)) ⌝ }
 {
+    let spare = planes.spare;
+    let width = planes.width;
+    let height = planes.height;
     let lines = spare + width * height;
-    turn(ws, from, spare, height, width);
-    let t = running_extremum_1d(tally, ws, spare, spare, lines, kernel, height, width, least);
-    turn(ws, spare, to, width, height);
+    let turned = Planes {
+        from: spare,
+        to: spare,
+        spare: lines,
+        width: height,
+        height: width,
+    };
+    turn(ws, planes.from, spare, height, width);
+    let t = running_extremum_1d(tally, ws, turned, kernel, least);
+    turn(ws, spare, planes.to, width, height);
     t
 }
