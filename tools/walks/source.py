@@ -70,7 +70,7 @@ def read(text, name):
             raise Unread(f'`{name}` has no `{word}`')
         inner, at = braced(text, brace)
         parts.append(inner)
-    claims = [re.search('⌜ (.*) ⌝', clause, re.DOTALL) for clause in parts[:2]]
+    claims = [re.search(r'⌜\s(.*)\s⌝', clause, re.DOTALL) for clause in parts[:2]]
     if not all(claims):
         raise Unread(f'the contract of `{name}` is no plain claim')
     asked, said = (' '.join(claim[1].split()) for claim in claims)

@@ -1,4 +1,4 @@
--- Rows swept strip by strip, and a sweep of the rows and then of the columns as the packed picture that it leaves. Assumes nothing.
+-- Proves that rows are swept strip by strip, and that a sweep of the rows and then of the columns leaves the packed picture. Assumes nothing.
 use mathlib.Core.Path.{_≡_, refl, sym, ap, _∙_, subst}
 use mathlib.Core.Bool.{Bool}
 use mathlib.Core.List.{List}
@@ -18,7 +18,25 @@ use Rattle.imgproc.specs.Walks.{cases, lines-walks-le}
 use Rattle.imgproc.specs.Compared.{Before, extreme}
 use Rattle.imgproc.specs.Morphology.{sweptRect, swept}
 use Rattle.imgproc.specs.MorphologyLaws.{reach-in, is-swept}
-use Rattle.imgproc.specs.Sweeps.{lane, Off, Spared, Reached, area, inPlace, LinesSwept, Turned, SweepReady, RowsSwept, ColumnsSwept, MorphReady, Morphed, PairReady, PairMorphed, TwiceReady, TwiceMorphed}
+use Rattle.imgproc.specs.Sweeps.{
+  lane,
+  Off,
+  Reached,
+  area,
+  inPlace,
+  Beside,
+  LinesSwept,
+  Turned,
+  SweepReady,
+  RowsSwept,
+  ColumnsSwept,
+  MorphReady,
+  Morphed,
+  PairReady,
+  PairMorphed,
+  TwiceReady,
+  TwiceMorphed,
+}
 use Rattle.imgproc.proofs.morphology.sweeps.Blocks.{order, seen}
 use Rattle.imgproc.proofs.morphology.sweeps.Lanes.{off, apart-within, outside-at, line-order}
 
@@ -27,7 +45,7 @@ pub off-within : {at n j : ℕ} (a m : ℕ) → Off at n j → at ≤ a → a + 
 off-within a m p l h = record { off = ⊎-elim (λ s. inl (omega arith)) (λ s. inr (omega arith)) (p .off) }
 
 -- ---- a strip: turned, swept as lanes, turned back
--- the planes of the sweep between
+-- between, the sweep works on these planes
 abbrev pub turned : Planes → Planes
 turned p = record { from = p .spare; to = p .spare; spare = p .spare + area p; width = p .height; height = p .width }
 
@@ -44,7 +62,9 @@ strip-swept {k = k} {p = p} pos there swept back =
         long = back .rest .long ∙ swept .kept .long ∙ there .rest .long;
         same = λ j u q.
             outside-at j (back .rest) u
-            ∙ swept .kept .same j (off-within spare (h * w) q (omega arith) (omega arith)) (off-within (spare + w * h) (2 * (h * w)) q (omega arith) (omega arith))
+            ∙ swept .kept .same j
+            (off-within spare (h * w) q (omega arith) (omega arith))
+            (off-within (spare + w * h) (2 * (h * w)) q (omega arith) (omega arith))
             ∙ outside-at j (there .rest) (off-within spare (h * w) q (omega arith) (omega arith));
       };
     }
@@ -55,10 +75,10 @@ pub record Sweeping (tally : Tally) (d : List ℕ) (p : Planes) (k : ℕ) (least
   pub each : (x i : ℕ) → x < p .width → i < y →
       Reached (Before least) k (p .width) (λ j. lane d (p .from) (p .width) j i) x (lane d′ (p .to) (p .width) x i)
   pub ahead : (j : ℕ) → p .from + y * p .width ≤ j → j < p .from + area p → getD d′ j 0 ≡ getD d j 0
-  pub kept : Spared (p .to) (area p) (p .spare) (3 * area p) d d′
+  pub kept : Beside (3 * area p) p d d′
   pub counted : Raised tally (y * lineWalks k (p .width)) raised
 
--- the planes of the strip of n rows from y on
+-- the strip of n rows from y on has these planes
 abbrev pub stripOf : Planes → ℕ → ℕ → Planes
 stripOf p y n = record { from = p .from + y * p .width; to = p .to + y * p .width; spare = p .spare; width = p .width; height = n }
 
@@ -98,14 +118,16 @@ module _ {tally : Tally} {d : List ℕ} {p : Planes} {k : ℕ} {least : Bool} (r
       still : (j : ℕ) → Off (p .to + y * p .width) (p .width * n) j → Off (p .spare) (3 * area p) j → getD b j 0 ≡ getD a j 0
       still j u q = let z = size in strip .kept .same j u (off-within (p .spare) (3 * (p .width * n)) q (omega arith) (omega arith))
 
-      above : (x i : ℕ) → x < p .width → i < y → Reached (Before least) k (p .width) (λ j. lane d (p .from) (p .width) j i) x (lane b (p .to) (p .width) x i)
+      above : (x i : ℕ) → x < p .width → i < y
+          → Reached (Before least) k (p .width) (λ j. lane d (p .from) (p .width) j i) x (lane b (p .to) (p .width) x i)
       above x i X I =
           let z = size in
           let l = line-order (p .width) i y I in
           let j = p .to + (i * p .width + x) in
           rw (still j (record { off = inl (omega arith) }) (off j (ready .target-apart) (omega arith) (omega arith))) (s .each x i X I)
 
-      within : (x i : ℕ) → x < p .width → y ≤ i → i < y + n → Reached (Before least) k (p .width) (λ j. lane d (p .from) (p .width) j i) x (lane b (p .to) (p .width) x i)
+      within : (x i : ℕ) → x < p .width → y ≤ i → i < y + n
+          → Reached (Before least) k (p .width) (λ j. lane d (p .from) (p .width) j i) x (lane b (p .to) (p .width) x i)
       within x i X L I =
           let m = i - y in
           let w = p .width in
@@ -129,7 +151,10 @@ module _ {tally : Tally} {d : List ℕ} {p : Planes} {k : ℕ} {least : Bool} (r
             each = λ x i X I. cases i y (λ e. within x i X (omega arith) I) (λ l. above x i X l) (λ g. within x i X (omega arith) I);
             ahead = λ j l m.
                 still j
-                (⊎-elim (λ e. record { off = inr (omega arith) }) (λ u. off-within (p .to + y * w) (w * n) (off j u (omega arith) m) (omega arith) (omega arith)) (ready .planes))
+                (⊎-elim
+                (λ e. record { off = inr (omega arith) })
+                (λ u. off-within (p .to + y * w) (w * n) (off j u (omega arith) m) (omega arith) (omega arith))
+                (ready .planes))
                 (off j (ready .source-apart) (omega arith) (omega arith))
                 ∙ s .ahead j (omega arith) m;
             kept = record {
@@ -149,8 +174,8 @@ module _ {tally : Tally} {d : List ℕ} {p : Planes} {k : ℕ} {least : Bool} (r
       }
 
 -- what a sweep of the plane that another left asks, where the tally has room for it
-sweep-again : {t a : Tally} {d e : List ℕ} {p : Planes} {k k′ : ℕ} → SweepReady t d p k → Spared (p .to) (area p) (p .spare) (3 * area p) d e
-    → 0 < k′ → HasRoom a (3 * area p) → SweepReady a e (inPlace p) k′
+sweep-again : {t a : Tally} {d e : List ℕ} {p : Planes} {k k′ : ℕ} → SweepReady t d p k → Beside (3 * area p) p d e → 0 < k′
+    → HasRoom a (3 * area p) → SweepReady a e (inPlace p) k′
 sweep-again ready s kernel room =
     let long = s .long in
     record {
@@ -183,7 +208,8 @@ module _ {least : Bool} {kw kh : ℕ} {p : Planes} {t a : Tally} {d e : List ℕ
     both : (x y : ℕ) → x < w → y < h → Extreme (Before least) (Inside (reachBox kw kh w h x y)) (λ q. lane d (p .from) w (q .0) (q .1)) (lane g (p .to) w x y)
     both x y X Y =
         let col = down .each x y X Y in
-        let rows : (i : ℕ) → Between (reachFrom kh h y) (reachTo kh h y) i → Reached (Before least) kw w (λ j. lane d (p .from) w j i) x (lane e (p .to) w x i) = λ i s.
+        let rows : (i : ℕ) → Between (reachFrom kh h y) (reachTo kh h y) i
+        → Reached (Before least) kw w (λ j. lane d (p .from) w j i) x (lane e (p .to) w x i) = λ i s.
         across .each x i X (omega (arith, reach-in kh h y (ready .columns) Y)) in
         let best = rows (col .at) (col .within) in
         record {

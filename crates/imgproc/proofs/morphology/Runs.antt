@@ -1,4 +1,5 @@
--- The work of an accepted morphology call: its planes lie in the workspace, and what is packed, operated on and painted is the contract's picture. Assumes nothing.
+-- Proves the work of an accepted morphology call: its planes lie in the workspace, and what is packed, operated on and painted is the contract's
+-- picture. Assumes nothing.
 use mathlib.Core.Path.{_≡_, sym, ap, ap₂, _∙_}
 use mathlib.Core.List.{List}
 use mathlib.Core.Logic.{inl, inr}
@@ -18,7 +19,7 @@ use Rattle.imgproc.specs.MorphologyCalls.{operated, OperateReady, CountR
 use Rattle.image.specs.LayoutLaws.{area-small}
 use Rattle.image.specs.CopyLaws.{packs-plane, unpacks-done}
 
--- ---- the planes of an operation: the first, the second, and the scratch after them
+-- ---- an operation reads the first plane, writes the second, and has its scratch after both
 abbrev pub firstToSecond : ℕ → ℕ → Planes
 firstToSecond w h = record { from = 0; to = w * h; spare = 2 * (w * h); width = w; height = h }
 
@@ -68,7 +69,10 @@ module _ (operation : Operation) (src : List ℕ) (s : Geometry) (dst : List ℕ
         let p : dst′ ≡ painted (part (s .width * s .height) (s .width * s .height) second) (s .width) (s .height) (t .stride) dst =
         left ∙ rw (ready .wide, ready .high) in
         record {
-          leaves = p ∙ ap (λ (q : List ℕ). painted q (s .width) (s .height) (t .stride) dst) (counts .leaves ∙ ap (operated operation k (s .width) (s .height)) (plane .1));
+          leaves =
+              p
+              ∙ ap (λ (q : List ℕ). painted q (s .width) (s .height) (t .stride) dst)
+              (counts .leaves ∙ ap (operated operation k (s .width) (s .height)) (plane .1));
           counted = counts .counted;
           long = counts .long ∙ long;
         }

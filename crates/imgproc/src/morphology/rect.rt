@@ -1,15 +1,25 @@
-// Erosion, dilation, opening and closing of packed planes of one lent workspace, at offsets: rows are swept, then
-// columns, each with its own kernel. Every comparison of samples is in `sweeps` and is counted. The cores carry the tally
-// by value, and one tally is lent to every sweep of an operation.
+// Erodes, dilates, opens and closes packed planes of one lent workspace, at offsets: sweeps the rows, then the columns,
+// each with its own kernel. Every comparison of samples is in `sweeps` and is counted. The cores carry the tally by
+// value, and one tally is lent to every sweep of an operation.
 use crate::morphology::sweeps::Planes;
 use crate::morphology::sweeps::running_extremum_1d;
 use crate::morphology::sweeps::strip_of;
 use crate::morphology::sweeps::sweep_strip;
 use crate::morphology::tally::Tally;
 ghost use Rattle.imgproc.specs.Morphology.{opened, closed};
-ghost use Rattle.imgproc.specs.Sweeps.{SweepReady, RowsSwept, ColumnsSwept, MorphReady, Morphed, PairReady, PairMorphed, TwiceReady, TwiceMorphed};
+ghost use Rattle.imgproc.specs.Sweeps.{
+  SweepReady,
+  RowsSwept,
+  ColumnsSwept,
+  MorphReady,
+  Morphed,
+  PairReady,
+  PairMorphed,
+  TwiceReady,
+  TwiceMorphed,
+};
 
-// The core of the sweep along each row, from one plane to another or back to the same, strip by strip.
+// Sweeps along each row, from one plane to another or back to the same, strip by strip.
 fn row_core(tally: Tally, ws: &mut [u8], planes: Planes, kernel: usize, least: bool) -> Tally
     requires { ⌜ SweepReady tally (now ws) planes kernel ⌝ }
     ensures { λ r. ⌜ RowsSwept tally (now (ws .entry)) planes kernel least r (now (ws .exit)) ⌝ }
@@ -34,7 +44,7 @@ fn row_core(tally: Tally, ws: &mut [u8], planes: Planes, kernel: usize, least: b
     t
 }
 
-// The core of the sweep along each column, from one plane to another or back to the same.
+// Sweeps along each column, from one plane to another or back to the same.
 fn column_core(tally: Tally, ws: &mut [u8], planes: Planes, kernel: usize, least: bool) -> Tally
     requires { ⌜ SweepReady tally (now ws) planes kernel ⌝ }
     ensures { λ r. ⌜ ColumnsSwept tally (now (ws .entry)) planes kernel least r (now (ws .exit)) ⌝ }
@@ -42,24 +52,30 @@ fn column_core(tally: Tally, ws: &mut [u8], planes: Planes, kernel: usize, least
     running_extremum_1d(tally, ws, planes, kernel, least)
 }
 
-// The sweep along each row: the lent tally is raised by what the core counted.
+// Raises the lent tally by what the sweep along each row counted.
 fn sweep_rows(tally: &mut Tally, ws: &mut [u8], planes: Planes, kernel: usize, least: bool)
     requires { ⌜ SweepReady (now tally) (now ws) planes kernel ⌝ }
-    ensures { λ _. ⌜ RowsSwept (now (tally .entry)) (now (ws .entry)) planes kernel least (now (tally .exit)) (now (ws .exit)) ⌝ }
+    ensures { λ _.
+        ⌜
+        RowsSwept (now (tally .entry)) (now (ws .entry)) planes kernel least (now (tally .exit)) (now (ws .exit))
+        ⌝ }
 {
     *tally = row_core(*tally, ws, planes, kernel, least);
 }
 
-// The sweep along each column: the lent tally is raised by what the core counted.
+// Raises the lent tally by what the sweep along each column counted.
 fn sweep_columns(tally: &mut Tally, ws: &mut [u8], planes: Planes, kernel: usize, least: bool)
     requires { ⌜ SweepReady (now tally) (now ws) planes kernel ⌝ }
-    ensures { λ _. ⌜ ColumnsSwept (now (tally .entry)) (now (ws .entry)) planes kernel least (now (tally .exit)) (now (ws .exit)) ⌝ }
+    ensures { λ _.
+        ⌜
+        ColumnsSwept (now (tally .entry)) (now (ws .entry)) planes kernel least (now (tally .exit)) (now (ws .exit))
+        ⌝ }
 {
     *tally = column_core(*tally, ws, planes, kernel, least);
 }
 
-// Erosion where `least` is true, else dilation: along the rows with one kernel, then along the columns with another.
-// One tally is lent to both sweeps.
+// Erodes where `least` is true, else dilates: along the rows with one kernel, then along the columns with another.
+// Lends one tally to both sweeps.
 pub(crate) fn morph_rect_into(
     tally: Tally,
     ws: &mut [u8],
@@ -84,8 +100,8 @@ pub(crate) fn morph_rect_into(
     t
 }
 
-// An erosion or a dilation, then another of what it left, each an erosion where its flag is true.
-// One tally is lent to all four sweeps.
+// Erodes or dilates, then erodes or dilates what that left: erodes where the flag, `first` or `second`, is true.
+// Lends one tally to all four sweeps.
 fn morph_rect_twice(
     tally: Tally,
     ws: &mut [u8],
@@ -96,7 +112,10 @@ fn morph_rect_twice(
     second: bool,
 ) -> Tally
     requires { ⌜ PairReady tally (now ws) planes «kernel_width» «kernel_height» ⌝ }
-    ensures { λ r. ⌜ PairMorphed tally (now (ws .entry)) planes «kernel_width» «kernel_height» first second r (now (ws .exit)) ⌝ }
+    ensures { λ r.
+        ⌜
+        PairMorphed tally (now (ws .entry)) planes «kernel_width» «kernel_height» first second r (now (ws .exit))
+        ⌝ }
 {
     let mut t = tally;
     let in_place = Planes {
@@ -113,7 +132,7 @@ fn morph_rect_twice(
     t
 }
 
-// Opening: erosion, then dilation of what it left.
+// Opens: erodes, then dilates what that left.
 pub(crate) fn open_rect_into(tally: Tally, ws: &mut [u8], planes: Planes, kernel: usize) -> Tally
     requires { ⌜ TwiceReady tally (now ws) planes kernel ⌝ }
     ensures { λ r. ⌜ TwiceMorphed opened tally (now (ws .entry)) planes kernel r (now (ws .exit)) ⌝ }
@@ -121,7 +140,7 @@ pub(crate) fn open_rect_into(tally: Tally, ws: &mut [u8], planes: Planes, kernel
     morph_rect_twice(tally, ws, planes, kernel, kernel, true, false)
 }
 
-// Closing: dilation, then erosion of what it left.
+// Closes: dilates, then erodes what that left.
 pub(crate) fn close_rect_into(tally: Tally, ws: &mut [u8], planes: Planes, kernel: usize) -> Tally
     requires { ⌜ TwiceReady tally (now ws) planes kernel ⌝ }
     ensures { λ r. ⌜ TwiceMorphed closed tally (now (ws .entry)) planes kernel r (now (ws .exit)) ⌝ }

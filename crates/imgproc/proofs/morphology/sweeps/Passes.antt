@@ -14,12 +14,37 @@ use Rattle.imgproc.specs.Walks.{walk-le}
 use Rattle.imgproc.specs.declared.morphology.tally.Tally.{Tally}
 use Rattle.imgproc.specs.declared.morphology.sweeps.Planes.{Planes}
 use Rattle.imgproc.specs.Tallies.{Raised, HasRoom, raised-none, raised-twice, raised-as, room-left}
-use Rattle.imgproc.specs.Sweeps.{lane, Apart, Outside, Rowed, Forwards, Backwards, Joins, Passed, ForwardPassed, BackwardPassed, JoinPassed, area, LinesSwept}
-use Rattle.imgproc.proofs.morphology.sweeps.Blocks.{forward-first, forward-next, backward-first, backward-next, backward-none, after, reached, seen, order}
+use Rattle.imgproc.specs.Sweeps.{
+  lane,
+  Apart,
+  Outside,
+  Rowed,
+  Forwards,
+  Backwards,
+  Joins,
+  Passed,
+  ForwardPassed,
+  BackwardPassed,
+  JoinPassed,
+  area,
+  LinesSwept,
+}
+use Rattle.imgproc.proofs.morphology.sweeps.Blocks.{
+  forward-first,
+  forward-next,
+  backward-first,
+  backward-next,
+  backward-none,
+  after,
+  reached,
+  seen,
+  order,
+}
 use Rattle.imgproc.proofs.morphology.sweeps.Lanes.{off, apart-within, outside-at, line-order, line-before, Downward, down-more, Upward, up-more}
 
--- a sample of a plane apart from the one that was written
-pub plane-kept : {w h to : ℕ} {d a : List ℕ} (from x y j : ℕ) → Apart from (w * h) to (w * h) → Outside to (w * h) d a → x < w → y < h → j ≡ from + (y * w + x) → getD a j 0 ≡ lane d from w x y
+-- a sample of a plane apart from the one that was written is as it was
+pub plane-kept : {w h to : ℕ} {d a : List ℕ} (from x y j : ℕ) → Apart from (w * h) to (w * h) → Outside to (w * h) d a → x < w → y < h
+    → j ≡ from + (y * w + x) → getD a j 0 ≡ lane d from w x y
 plane-kept {w} {h} {to} {d} {a} from x y j p o X Y e =
     let b = line-order w y h Y in
     outside-at j o (off j p (omega arith) (omega arith)) ∙ ap (λ (n : ℕ). getD d n 0) e
@@ -107,7 +132,12 @@ lines-swept {least} {k} {p} {d = d} {f = f} {g = g} pos apart forth back joined 
       (λ j l.
       seen
       (λ i s.
-      plane-kept (p .from) x i (p .from + (i * p .width + x)) (apart-within _ _ _ _ apart (omega arith) (omega arith) (omega arith) (omega arith)) (forth .rest) X (omega arith) refl)
+      plane-kept (p .from) x i (p .from + (i * p .width + x))
+      (apart-within _ _ _ _ apart (omega arith) (omega arith) (omega arith) (omega arith))
+      (forth .rest)
+      X
+      (omega arith)
+      refl)
       (back .each x j X l))
       (λ j l. rw (plane-kept (p .spare) x j (p .spare + (j * p .width + x)) (record { clear = inl (omega arith) }) (back .rest) X l refl) (forth .each x j X l))
       y
