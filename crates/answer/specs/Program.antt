@@ -8,8 +8,7 @@ use lib.Dec.{eqb}
 use lib.ListN.{length, take, drop}
 use Rattle.image.specs.Plane.{paintedOn}
 use Rattle.imgproc.specs.GridCalls.{tileCount}
-use Rattle.imgproc.specs.Refusals.{tableEntries}
-use Rattle.imgproc.specs.Reading.{readingOf, marked}
+use Rattle.imgproc.specs.Reading.{readingOf, marked, readingBytes, readingU64s}
 use Rattle.pgm.specs.declared.Parsed.{Parsed}
 use Rattle.pgm.specs.declared.Parsed.the-variants.{Picture, Malformed}
 use Rattle.pgm.specs.Form.{sideLimit, inputLimit, parsedNumber}
@@ -63,11 +62,11 @@ mostTiles = tileCount (settings .grid) sideLimit sideLimit
 
 -- the byte workspace that its reading asks for: 9wh + 2t bytes, 32,432
 abbrev pub mostBytes : ℕ
-mostBytes = 9 * mostPixels + 2 * mostTiles
+mostBytes = readingBytes (settings .grid) sideLimit sideLimit
 
 -- the u64 workspace that its reading asks for: 2(w + 1)(h + 1) + 5t numbers, 7,522
 abbrev pub mostU64s : ℕ
-mostU64s = tableEntries sideLimit sideLimit + 5 * mostTiles
+mostU64s = readingU64s (settings .grid) sideLimit sideLimit
 
 -- a text is written at the start of a buffer, the rest of which is as it was, and its length is the answer
 pub record Prints (text before : List ℕ) (answer : ℕ) (after : List ℕ) : Type 0 where

@@ -22,7 +22,7 @@ use Rattle.imgproc.specs.Refusals.{
   tableEntries,
 }
 use Rattle.imgproc.specs.RefusalLaws.{then-accepted, passes-last, source-refused, pair-taken}
-use Rattle.imgproc.specs.Reading.{readingSettings, readingRoom}
+use Rattle.imgproc.specs.Reading.{readingSettings, readingBytes, readingU64s, readingRoom}
 use Rattle.pgm.specs.Form.{sideLimit}
 use Rattle.answer.specs.Answer.{settings, tight}
 use Rattle.answer.specs.Program.{empty, mostPixels, mostTiles, mostBytes, mostU64s}
@@ -74,8 +74,8 @@ module _ (w h : ℕ) (W : 0 < w) (H : 0 < h) (ww : w ≤ sideLimit) (hh : h ≤ 
       ∙ then-accepted (readingSettings settings) room settings-taken
       ∙ passes-last _ _
       (rw (
-        le-ltb bytes (9 * (w * h) + 2 * tileCount (settings .grid) w h) (omega (arith, area, tiles)),
-        le-ltb u64s (tableEntries w h + 5 * tileCount (settings .grid) w h) (omega (arith, entries, tiles)),
+        le-ltb bytes (readingBytes (settings .grid) w h) (omega (arith, area, tiles)),
+        le-ltb u64s (readingU64s (settings .grid) w h) (omega (arith, entries, tiles)),
       ))
 
 -- a zero side is refused before all else

@@ -33,7 +33,7 @@ pub const LINE: usize = pgm::LINE_ROOM;
 const TILES: usize = 4 * 4;
 
 // The byte workspace that a reading of the largest picture asks for: 9wh + 2t bytes, 32,432.
-const BYTES: usize = 9 * PIXELS + 2 * TILES;
+const BYTES: usize = imgproc::reading::PLANES * PIXELS + 2 * TILES;
 
 // The u64 workspace that it asks for: 2(w + 1)(h + 1) + 5t numbers, 7,522.
 const U64S: usize = 2 * (pgm::SIDE_LIMIT + 1) * (pgm::SIDE_LIMIT + 1) + 5 * TILES;

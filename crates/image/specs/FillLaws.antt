@@ -8,7 +8,7 @@ use mathlib.Core.List.{List}
 use lib.ListN.{length, getD}
 use borrow.Rule.Slice.PartMut.{putMid}
 use Rattle.image.specs.Plane.{plane, part, overwritten}
-use Rattle.image.specs.PlaneLaws.{length-plane, length-part, length-overwritten, overwritten-after}
+use Rattle.image.specs.PlaneLaws.{length-plane, length-part, length-overwritten}
 use Rattle.image.specs.PaintLaws.{put-part, plane-start, plane-more}
 
 -- row y of a packed plane lies in it
@@ -55,15 +55,6 @@ module _ (w h : ℕ) (f : ℕ → ℕ → ℕ) (at : ℕ) (d : List ℕ) where
       -- row y lies in the workspace
       pub fill-fits : at + y * w + w ≤ length l
       fill-fits = omega (arith, fill-same, row-in-plane w h y t)
-
-      -- row y is not written yet
-      pub fill-ahead : (x : ℕ) → x < w → getD l (at + y * w + x) 0 ≡ getD d (at + y * w + x) 0
-      fill-ahead x u =
-          let e : at + length (plane w y f) + x ≡ at + y * w + x = omega (arith, length-plane w y f, mul-comm w y) in
-          ap (λ (k : List ℕ). getD k (at + y * w + x) 0) (o .is)
-          ∙ ap (λ (n : ℕ). getD (overwritten at (plane w y f) d) n 0) (sym e)
-          ∙ overwritten-after at (plane w y f) d written x
-          ∙ ap (λ (n : ℕ). getD d n 0) e
 
       -- a row r of f's numbers, written as row y, carries the invariant on
       pub fill-next : (r : List ℕ) → 0 < w → length r ≡ w → ((x : ℕ) → x < w → getD r x 0 ≡ f x y)

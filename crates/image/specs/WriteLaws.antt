@@ -14,7 +14,7 @@ use Rattle.image.specs.PlaneLaws.{length-tabulate, getD-tabulate, length
 use Rattle.image.specs.PaintLaws.{overwritten-more}
 
 -- storing one number is writing a list of one
-set-is : (d : List ℕ) (i v : ℕ) → i < length d → set d i v ≡ overwritten i (v ∷ []) d
+pub set-is : (d : List ℕ) (i v : ℕ) → i < length d → set d i v ≡ overwritten i (v ∷ []) d
 set-is d i v h = set-split d i v h ∙ ap (λ (k : ℕ). take i d ++ (v ∷ drop k d)) (sym (add-one i))
 
 -- a tabulated list of t numbers, and f t after it, is one of t + 1

@@ -24,7 +24,7 @@ ghost use Rattle.imgproc.specs.Refusals.{first};
 ghost use Rattle.imgproc.specs.ReadingSteps.{ReadReady, ReadDone, OpenReady, Opened, MarkReady, Marks};
 
 // A reading's byte workspace begins with this many planes of width × height bytes; the tiles' skips follow them.
-const PLANES: usize = 9;
+pub const PLANES: usize = 9;
 
 pub struct ReadingCounts {
     pub dark: u64,

@@ -11,16 +11,12 @@ use lib.ListN.{length, take, drop, length-append, length-drop}
 use lib.Seq.{take-all, length-take-le}
 use borrow.Author.Tests.{eqb-true, eqb-false, eq-eqb, ltb-true, ltb-false}
 use Rattle.image.specs.Answers.{accepted}
+use Rattle.image.specs.LayoutLaws.{both}
 use Rattle.pgm.specs.declared.Parsed.{Parsed}
 use Rattle.pgm.specs.declared.Parsed.the-variants.{Picture, Malformed}
 use Rattle.pgm.specs.Form.{sideLimit, header, Form, inputLimit, PictureFound, parsedAnswer, Answers}
 use Rattle.pgm.specs.FormLaws.{same-header, form-short}
 use Rattle.pgm.specs.Parse.{begins, formed, sides, sought, parsedOf, parsedFrom}
-
--- where "one and the other" holds, both tests hold
-both : (a b : Bool) → (a && b) ≡ true → (a ≡ true) × (b ≡ true)
-both true b e = (refl, e)
-both false b e = let z : _≡_ {A = ℕ} 0 1 = cc in absurd (omega arith)
 
 -- ---- the form as a test
 

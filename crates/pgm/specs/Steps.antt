@@ -4,7 +4,8 @@ use Prim.Native.Nat.{ℕ, _+_, _≤_, _<_}
 use mathlib.Core.Path.{_≡_}
 use mathlib.Core.Bool.{Bool, true, false}
 use mathlib.Core.List.{List, [], _∷_, _++_}
-use lib.ListN.{length, take, drop}
+use lib.ListN.{length, drop}
+use Rattle.image.specs.Plane.{overwritten}
 use Rattle.pgm.specs.Decimal.{digit, decimal}
 use Rattle.pgm.specs.Form.{sideLimit, header}
 use Rattle.pgm.specs.declared.Parsed.{Parsed}
@@ -43,10 +44,6 @@ abbrev pub ReadsHeader : List ℕ → Parsed → Type 0
 ReadsHeader input (Picture w h at) = Headed input w h at
 ReadsHeader input Malformed =
     (w h : ℕ) → w ≤ sideLimit → h ≤ sideLimit → (rest : List ℕ) → input ≡ header w h ++ rest → ⊥
-
--- d with the bytes p from `at` on, and every other as it was
-abbrev pub overwritten : ℕ → List ℕ → List ℕ → List ℕ
-overwritten at p d = take at d ++ (p ++ drop (at + length p) d)
 
 -- three numbers with spaces between, and a byte at the end
 abbrev pub three : ℕ → ℕ → ℕ → ℕ → List ℕ

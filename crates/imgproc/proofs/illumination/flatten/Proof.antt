@@ -21,7 +21,8 @@ close-rect-into-requires c κs =
     let pack = c .before .before .before in
     let start = pack .before .before .before .before in
     let a = start .args in
-    close-ready (a .tally) (now (a .src)) (a .geometry) (a .config) (now (a .workspace)) (start .pre) (copiedAnswer (pack .pack .result)) (pack .pack .last .1 .1 .0) (pack .pack .ensures)
+    close-ready (a .tally) (now (a .src)) (a .geometry) (a .config) (now (a .workspace)) (start .pre)
+    (copiedAnswer (pack .pack .result)) (pack .pack .last .1 .1 .0) (pack .pack .ensures)
 
 divide-plane-requires : tie.Need-divide-plane-requires
 divide-plane-requires c κs = record {
@@ -41,7 +42,8 @@ returns c =
     let pack = close .before .before .before .before in
     let start = pack .before .before .before .before in
     let a = start .args in
-    flattened (a .tally) (now (a .src)) (a .geometry) (a .config) (now (a .workspace)) (start .pre) (copiedAnswer (pack .pack .result)) (pack .pack .last .1 .1 .0) (pack .pack .ensures)
+    flattened (a .tally) (now (a .src)) (a .geometry) (a .config) (now (a .workspace)) (start .pre)
+    (copiedAnswer (pack .pack .result)) (pack .pack .last .1 .1 .0) (pack .pack .ensures)
     (close .close-rect-into .result) (close .close-rect-into .last .1 .0) (close .close-rect-into .ensures) (divide .divide-plane .ensures)
 
 pub flatten-spec : {M : Type 1} → statement M
