@@ -34,8 +34,8 @@
 #endif
 
 /* The version, and the number of the calling form, which changes whenever a declaration changes. */
-#define IMGPROC_VERSION "0.1.0"
-#define IMGPROC_ABI 1
+#define IMGPROC_VERSION "0.2.0"
+#define IMGPROC_ABI 2
 
 /* The largest side of a picture. */
 #define IMGPROC_MAX_SIDE 4096
@@ -62,7 +62,7 @@ enum imgproc_refusal {
 /* Returns the number of the archive's calling form, which its name holds too. Each file that includes this header
    refers to the name, so that an archive of another calling form does not link: it lacks the name. Nobody has to call
    it. */
-uint32_t imgproc_abi_1(void);
+uint32_t imgproc_abi_2(void);
 #if defined(__has_attribute)
 #if __has_attribute(retain)
 #define IMGPROC_KEPT __attribute__((used, retain))
@@ -74,7 +74,7 @@ uint32_t imgproc_abi_1(void);
 #ifndef IMGPROC_KEPT
 #define IMGPROC_KEPT
 #endif
-static uint32_t (*const imgproc_abi_kept)(void) IMGPROC_KEPT = imgproc_abi_1;
+static uint32_t (*const imgproc_abi_kept)(void) IMGPROC_KEPT = imgproc_abi_2;
 #undef IMGPROC_KEPT
 
 /* Tells whether a range of len bytes holds the picture. Refused: layout. */
@@ -212,7 +212,7 @@ uint32_t imgproc_row_all_skip(size_t width, size_t height, size_t tile_width, si
    number of pixels of each kind, *comparisons the number of comparisons of samples in the closing and the opening. With
    t the number of tiles, refused: layout of src, layout of dst, 5, then 7 for the settings of the division, 6 if
    opening_kernel is even or below 3, 7 for the settings of the grid, method included, 7 for those of the threshold,
-   then 8 if bytes_len is below 9 * width * height + 2 * t or words_len below 2 * (width + 1) * (height + 1) + 5 * t
+   then 8 if bytes_len is below 9 * width * height + 2 * t or u64s_len below 2 * (width + 1) * (height + 1) + 5 * t
    numbers. */
 uint32_t imgproc_reading(const uint8_t *src, size_t src_len, size_t src_width, size_t src_height, size_t src_stride,
                          uint8_t *dst, size_t dst_len, size_t dst_width, size_t dst_height, size_t dst_stride,
@@ -223,7 +223,7 @@ uint32_t imgproc_reading(const uint8_t *src, size_t src_len, size_t src_width, s
                          uint32_t method, double k, double dynamic_range,
                          size_t radius, uint32_t k_milli, uint32_t sauvola_dynamic_range,
                          uint8_t dark_value, uint8_t light_value,
-                         uint8_t *bytes, size_t bytes_len, uint64_t *words, size_t words_len,
+                         uint8_t *bytes, size_t bytes_len, uint64_t *u64s, size_t u64s_len,
                          uint64_t *dark, uint64_t *light, uint64_t *skipped, uint64_t *comparisons);
 
 /* Returns the square root of x, correctly rounded. The root of -0.0 is -0.0; the root of a NaN or of a value below zero

@@ -36,7 +36,7 @@ struct imgproc_bytes {
 };
 
 /* A u64 workspace; len counts numbers, not bytes. */
-struct imgproc_words {
+struct imgproc_u64s {
     uint64_t *data;
     size_t len;
 };
@@ -154,7 +154,7 @@ static inline size_t imgproc_times(size_t a, size_t b) {
     return b != 0 && a > SIZE_MAX / b ? SIZE_MAX : a * b;
 }
 /* Cuts a count of u64s to what malloc can be asked for, so that the length in bytes never wraps. */
-static inline size_t imgproc_word_count(size_t count) {
+static inline size_t imgproc_u64_count(size_t count) {
     return count > SIZE_MAX / sizeof(uint64_t) ? SIZE_MAX / sizeof(uint64_t) : count;
 }
 
@@ -172,8 +172,8 @@ static inline size_t imgproc_division_bytes(size_t width, size_t height) {
 }
 
 /* Returns the u64s that imgproc_binarize needs. */
-static inline size_t imgproc_sauvola_words(size_t width, size_t height) {
-    return imgproc_word_count(imgproc_times(2, imgproc_times(imgproc_plus(width, 1), imgproc_plus(height, 1))));
+static inline size_t imgproc_sauvola_u64s(size_t width, size_t height) {
+    return imgproc_u64_count(imgproc_times(2, imgproc_times(imgproc_plus(width, 1), imgproc_plus(height, 1))));
 }
 
 /* Returns the number of tiles of a picture, which is also the length of its thresholds and of its skips; 0 if a tile
@@ -186,8 +186,8 @@ static inline size_t imgproc_tiles(size_t width, size_t height, const struct img
 }
 
 /* Returns the u64s that imgproc_build_grid needs. */
-static inline size_t imgproc_grid_words(size_t width, size_t height, const struct imgproc_grid_settings *settings) {
-    return imgproc_word_count(imgproc_times(5, imgproc_tiles(width, height, settings)));
+static inline size_t imgproc_grid_u64s(size_t width, size_t height, const struct imgproc_grid_settings *settings) {
+    return imgproc_u64_count(imgproc_times(5, imgproc_tiles(width, height, settings)));
 }
 
 /* Returns the bytes that imgproc_read needs. */
@@ -198,10 +198,10 @@ static inline size_t imgproc_reading_bytes(size_t width, size_t height,
 }
 
 /* Returns the u64s that imgproc_read needs. */
-static inline size_t imgproc_reading_words(size_t width, size_t height,
-                                           const struct imgproc_reading_settings *settings) {
-    return imgproc_word_count(imgproc_plus(imgproc_sauvola_words(width, height),
-                                           imgproc_grid_words(width, height, &settings->grid)));
+static inline size_t imgproc_reading_u64s(size_t width, size_t height,
+                                          const struct imgproc_reading_settings *settings) {
+    return imgproc_u64_count(imgproc_plus(imgproc_sauvola_u64s(width, height),
+                                          imgproc_grid_u64s(width, height, &settings->grid)));
 }
 
 /* Calls imgproc_background_divide_into. */
@@ -218,7 +218,7 @@ static inline uint32_t imgproc_divide(struct imgproc_source src, struct imgproc_
 /* Calls imgproc_sauvola_into. */
 static inline uint32_t imgproc_binarize(struct imgproc_source src, struct imgproc_destination dst,
                                         const struct imgproc_sauvola_settings *settings,
-                                        struct imgproc_words workspace) {
+                                        struct imgproc_u64s workspace) {
     return imgproc_sauvola_into(src.data, src.len, src.width, src.height, src.stride,
                                 dst.data, dst.len, dst.width, dst.height, dst.stride,
                                 settings->radius, settings->k_milli, settings->dynamic_range,
@@ -228,7 +228,7 @@ static inline uint32_t imgproc_binarize(struct imgproc_source src, struct imgpro
 
 /* Calls imgproc_tile_grid_build. A refused call leaves *grid as it was. */
 static inline uint32_t imgproc_build_grid(struct imgproc_source src, const struct imgproc_grid_settings *settings,
-                                          struct imgproc_words workspace, struct imgproc_bytes thresholds,
+                                          struct imgproc_u64s workspace, struct imgproc_bytes thresholds,
                                           struct imgproc_bytes skips, struct imgproc_grid *grid) {
     size_t tiles_x = 0, tiles_y = 0;
     const uint32_t answer = imgproc_tile_grid_build(
@@ -268,7 +268,7 @@ static inline uint32_t imgproc_grid_row_all_skip(const struct imgproc_grid *grid
 /* Calls imgproc_reading. A refused call leaves *counts as it was. */
 static inline uint32_t imgproc_read(struct imgproc_source src, struct imgproc_destination dst,
                                     const struct imgproc_reading_settings *settings,
-                                    struct imgproc_bytes bytes, struct imgproc_words words,
+                                    struct imgproc_bytes bytes, struct imgproc_u64s u64s,
                                     struct imgproc_counts *counts) {
     return imgproc_reading(src.data, src.len, src.width, src.height, src.stride,
                            dst.data, dst.len, dst.width, dst.height, dst.stride,
@@ -280,7 +280,7 @@ static inline uint32_t imgproc_read(struct imgproc_source src, struct imgproc_de
                            settings->grid.method, settings->grid.k, settings->grid.dynamic_range,
                            settings->sauvola.radius, settings->sauvola.k_milli, settings->sauvola.dynamic_range,
                            settings->sauvola.dark_value, settings->sauvola.light_value,
-                           bytes.data, bytes.len, words.data, words.len,
+                           bytes.data, bytes.len, u64s.data, u64s.len,
                            &counts->dark, &counts->light, &counts->skipped, &counts->comparisons);
 }
 

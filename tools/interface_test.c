@@ -9,7 +9,7 @@
 #define SIDE 40
 #define ROOM (SIDE * SIDE)
 #define BYTES (12 * ROOM)
-#define WORDS (9 * ROOM)
+#define U64S (9 * ROOM)
 
 static uint64_t state = 1;
 static unsigned compared = 0, accepted = 0, refused = 0;
@@ -30,7 +30,7 @@ static void check(int holds, const char *what) {
 /* The buffers that a call is lent, twice: for the named call and for the flat one. */
 static uint8_t picture[ROOM];
 static uint8_t dst[2][ROOM], bytes[2][BYTES], thresholds[2][ROOM], skips[2][ROOM];
-static uint64_t words[2][WORDS];
+static uint64_t u64s[2][U64S];
 
 static void fill(void) {
     size_t i;
@@ -41,7 +41,7 @@ static void fill(void) {
         skips[0][i] = skips[1][i] = (uint8_t)below(256);
     }
     memset(bytes, (int)below(256), sizeof bytes);
-    memset(words, (int)below(256), sizeof words);
+    memset(u64s, (int)below(256), sizeof u64s);
 }
 
 static void same(uint32_t named, uint32_t flat, const char *what) {
@@ -50,7 +50,7 @@ static void same(uint32_t named, uint32_t flat, const char *what) {
     check(named == flat, what);
     check(memcmp(dst[0], dst[1], sizeof dst[0]) == 0, what);
     check(memcmp(bytes[0], bytes[1], sizeof bytes[0]) == 0, what);
-    check(memcmp(words[0], words[1], sizeof words[0]) == 0, what);
+    check(memcmp(u64s[0], u64s[1], sizeof u64s[0]) == 0, what);
     check(memcmp(thresholds[0], thresholds[1], sizeof thresholds[0]) == 0, what);
     check(memcmp(skips[0], skips[1], sizeof skips[0]) == 0, what);
 }
@@ -96,7 +96,7 @@ static void compare_calls(void) {
     struct imgproc_source src;
     struct imgproc_destination to;
     struct imgproc_bytes lent_bytes, lent_thresholds, lent_skips;
-    struct imgproc_words lent_words;
+    struct imgproc_u64s lent_u64s;
     struct imgproc_counts counts, left;
     struct imgproc_grid grid;
     uint64_t comparisons[2] = {7, 7}, dark = 1, light = 2, skipped = 3, tally = 4;
@@ -119,7 +119,7 @@ static void compare_calls(void) {
     if (off == 2) to.width = 0;
     if (off == 3) to.height += 1, to.len += to.stride;
     lent_bytes.data = bytes[0];
-    lent_words.data = words[0];
+    lent_u64s.data = u64s[0];
     lent_thresholds.data = thresholds[0];
     lent_skips.data = skips[0];
     lent_thresholds.len = lent_skips.len = imgproc_tiles(src.width, src.height, &s.grid);
@@ -139,28 +139,28 @@ static void compare_calls(void) {
     check(off != 4 || flat != IMGPROC_ACCEPTED, "imgproc_division_bytes is longer than needed");
 
     fill();
-    lent_words.len = imgproc_sauvola_words(src.width, src.height) - (off == 4);
-    named = imgproc_binarize(src, to, &s.sauvola, lent_words);
+    lent_u64s.len = imgproc_sauvola_u64s(src.width, src.height) - (off == 4);
+    named = imgproc_binarize(src, to, &s.sauvola, lent_u64s);
     flat = imgproc_sauvola_into(picture, src.len, src.width, src.height, src.stride, dst[1], to.len, to.width,
                                 to.height, to.stride, s.sauvola.radius, s.sauvola.k_milli, s.sauvola.dynamic_range,
-                                s.sauvola.dark_value, s.sauvola.light_value, words[1], lent_words.len);
+                                s.sauvola.dark_value, s.sauvola.light_value, u64s[1], lent_u64s.len);
     same(named, flat, "imgproc_binarize");
-    check((flat == IMGPROC_WORKSPACE_TOO_SMALL) <= (off == 4), "imgproc_sauvola_words");
-    check(off != 4 || flat != IMGPROC_ACCEPTED, "imgproc_sauvola_words is longer than needed");
+    check((flat == IMGPROC_WORKSPACE_TOO_SMALL) <= (off == 4), "imgproc_sauvola_u64s");
+    check(off != 4 || flat != IMGPROC_ACCEPTED, "imgproc_sauvola_u64s is longer than needed");
 
     fill();
     memset(&grid, 77, sizeof grid);
-    lent_words.len = imgproc_grid_words(src.width, src.height, &s.grid) - (off == 4 && lent_skips.len != 0);
+    lent_u64s.len = imgproc_grid_u64s(src.width, src.height, &s.grid) - (off == 4 && lent_skips.len != 0);
     lent_skips.len -= off == 5 && lent_skips.len != 0;
-    named = imgproc_build_grid(src, &s.grid, lent_words, lent_thresholds, lent_skips, &grid);
+    named = imgproc_build_grid(src, &s.grid, lent_u64s, lent_thresholds, lent_skips, &grid);
     flat = imgproc_tile_grid_build(picture, src.len, src.width, src.height, src.stride, s.grid.tile_width,
                                    s.grid.tile_height, s.grid.neighborhood_radius, s.grid.threshold_offset,
-                                   s.grid.contrast_floor, s.grid.method, s.grid.k, s.grid.dynamic_range, words[1],
-                                   lent_words.len, thresholds[1], lent_thresholds.len, skips[1], lent_skips.len,
+                                   s.grid.contrast_floor, s.grid.method, s.grid.k, s.grid.dynamic_range, u64s[1],
+                                   lent_u64s.len, thresholds[1], lent_thresholds.len, skips[1], lent_skips.len,
                                    &tiles_x, &tiles_y);
     same(named, flat, "imgproc_build_grid");
-    check((flat == IMGPROC_WORKSPACE_TOO_SMALL) <= (off == 4), "imgproc_grid_words");
-    check(off != 4 || flat != IMGPROC_ACCEPTED, "imgproc_grid_words is longer than needed");
+    check((flat == IMGPROC_WORKSPACE_TOO_SMALL) <= (off == 4), "imgproc_grid_u64s");
+    check(off != 4 || flat != IMGPROC_ACCEPTED, "imgproc_grid_u64s is longer than needed");
     check((flat == IMGPROC_GRID_BUFFER_TOO_SMALL) <= (off == 5), "imgproc_tiles");
     if (flat == IMGPROC_ACCEPTED) {
         check(grid.width == src.width && grid.height == src.height && grid.tile_width == s.grid.tile_width &&
@@ -187,17 +187,17 @@ static void compare_calls(void) {
 
     fill();
     lent_bytes.len = imgproc_reading_bytes(src.width, src.height, &s) - (off == 4);
-    lent_words.len = imgproc_reading_words(src.width, src.height, &s) - (off == 5);
+    lent_u64s.len = imgproc_reading_u64s(src.width, src.height, &s) - (off == 5);
     counts.dark = 1, counts.light = 2, counts.skipped = 3, counts.comparisons = 4;
     left = counts;
-    named = imgproc_read(src, to, &s, lent_bytes, lent_words, &counts);
+    named = imgproc_read(src, to, &s, lent_bytes, lent_u64s, &counts);
     flat = imgproc_reading(picture, src.len, src.width, src.height, src.stride, dst[1], to.len, to.width, to.height,
                            to.stride, s.division.structuring_element, s.division.target_luma,
                            s.division.denominator_floor, s.opening_kernel, s.grid.tile_width, s.grid.tile_height,
                            s.grid.neighborhood_radius, s.grid.threshold_offset, s.grid.contrast_floor, s.grid.method,
                            s.grid.k, s.grid.dynamic_range, s.sauvola.radius, s.sauvola.k_milli,
                            s.sauvola.dynamic_range, s.sauvola.dark_value, s.sauvola.light_value, bytes[1],
-                           lent_bytes.len, words[1], lent_words.len, &dark, &light, &skipped, &tally);
+                           lent_bytes.len, u64s[1], lent_u64s.len, &dark, &light, &skipped, &tally);
     same(named, flat, "imgproc_read");
     check(counts.dark == dark && counts.light == light && counts.skipped == skipped && counts.comparisons == tally,
           "the counts of a reading");
@@ -215,14 +215,14 @@ static void compare_defaults(void) {
     const struct imgproc_source src = {picture, 24 * 30, 24, 30, 24};
     const struct imgproc_destination to = {dst[0], 24 * 30, 24, 30, 24};
     const struct imgproc_bytes lent_bytes = {bytes[0], BYTES};
-    const struct imgproc_words lent_words = {words[0], WORDS};
+    const struct imgproc_u64s lent_u64s = {u64s[0], U64S};
     struct imgproc_counts counts;
     uint64_t dark, light, skipped, tally;
     uint32_t named, flat;
     fill();
-    named = imgproc_read(src, to, &s, lent_bytes, lent_words, &counts);
+    named = imgproc_read(src, to, &s, lent_bytes, lent_u64s, &counts);
     flat = imgproc_reading(picture, 24 * 30, 24, 30, 24, dst[1], 24 * 30, 24, 30, 24, 31, 200, 8, 3, 16, 16, 1, 0, 12,
-                           0, 0.0, 1.0, 8, 200, 128, 0, 255, bytes[1], BYTES, words[1], WORDS, &dark, &light, &skipped,
+                           0, 0.0, 1.0, 8, 200, 128, 0, 255, bytes[1], BYTES, u64s[1], U64S, &dark, &light, &skipped,
                            &tally);
     same(named, flat, "the defaults");
     check(counts.dark == dark && counts.light == light && counts.skipped == skipped && counts.comparisons == tally,
@@ -272,14 +272,14 @@ static void check_lengths(void) {
                           imgproc_division_bytes(w, h) == SIZE_MAX, "imgproc_division_bytes wraps");
                 check((double)imgproc_reading_bytes(w, h, &s) >= 9 * pixels * 0.99 ||
                           imgproc_reading_bytes(w, h, &s) == SIZE_MAX, "imgproc_reading_bytes wraps");
-                check((double)imgproc_sauvola_words(w, h) >= table * 0.99 || imgproc_sauvola_words(w, h) == most,
-                      "imgproc_sauvola_words wraps");
-                check((double)imgproc_reading_words(w, h, &s) >= table * 0.99 ||
-                          imgproc_reading_words(w, h, &s) == most, "imgproc_reading_words wraps");
-                check(imgproc_reading_words(w, h, &s) <= most && imgproc_grid_words(w, h, &s.grid) <= most,
+                check((double)imgproc_sauvola_u64s(w, h) >= table * 0.99 || imgproc_sauvola_u64s(w, h) == most,
+                      "imgproc_sauvola_u64s wraps");
+                check((double)imgproc_reading_u64s(w, h, &s) >= table * 0.99 ||
+                          imgproc_reading_u64s(w, h, &s) == most, "imgproc_reading_u64s wraps");
+                check(imgproc_reading_u64s(w, h, &s) <= most && imgproc_grid_u64s(w, h, &s.grid) <= most,
                       "a length in bytes wraps");
-                check(t != 1 || (double)imgproc_grid_words(w, h, &s.grid) >= 5 * pixels * 0.99 ||
-                          imgproc_grid_words(w, h, &s.grid) == most, "imgproc_grid_words wraps");
+                check(t != 1 || (double)imgproc_grid_u64s(w, h, &s.grid) >= 5 * pixels * 0.99 ||
+                          imgproc_grid_u64s(w, h, &s.grid) == most, "imgproc_grid_u64s wraps");
             }
 }
 

@@ -1,6 +1,6 @@
 """Checks what document 01, part 2, says of the tally and no contract can say. A contract fixes how many comparisons a call reports.
 It does not say that each of them was made, that each was counted when it was made, and that no other was made. The types keep all
-code but src/tally.rt from making a tally or touching its number. The rules of rules.py cover the rest. They are about the program
+code but src/morphology/tally.rt from making a tally or touching its number. The rules of rules.py cover the rest. They are about the program
 that the proofs are about, as `rt mir` prints it. No rule holds a copy of the code.
 
   python3 tools/tally             checks image, imgproc, and the two crates that report a number: answer and imgproc_c

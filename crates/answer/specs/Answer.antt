@@ -38,7 +38,7 @@ tight w h = record { width = w; height = h; stride = w }
 pub record Buffers : Type 0 where
   pub dst : List ℕ
   pub bytes : List ℕ
-  pub words : List ℕ
+  pub u64s : List ℕ
   pub out : List ℕ
 
 -- what the reading of a picture of w by h is lent
@@ -51,12 +51,12 @@ lentTo w h pixels lent s =
       target = tight w h;
       settings = s;
       bytes = lent .bytes;
-      words = lent .words;
+      u64s = lent .u64s;
     }
 
 -- what it leaves of the buffers
 abbrev pub leftBy : Buffers → ReadingLeft
-leftBy left = record { dst = left .dst; bytes = left .bytes; words = left .words }
+leftBy left = record { dst = left .dst; bytes = left .bytes; u64s = left .u64s }
 
 -- what a reading answers to what it is lent
 abbrev pub readOf : ReadingLent → Answer ReadingNumbers
@@ -81,7 +81,7 @@ pub record AnswersMalformed (lent : Buffers) (answer : ℕ) (left : Buffers) : T
   pub writes : Writes (refusedLine (parsedNumber Malformed)) (lent .out) answer (left .out)
   pub dst-left : left .dst ≡ lent .dst
   pub bytes-left : left .bytes ≡ lent .bytes
-  pub words-left : left .words ≡ lent .words
+  pub u64s-left : left .u64s ≡ lent .u64s
 
 -- the contract of `answer`: to a picture, by the sides and the pixels of its form; to any other input, refusal 11
 pub record AnswersInput (input : List ℕ) (lent : Buffers) (answer : ℕ) (left : Buffers) : Type 0 where

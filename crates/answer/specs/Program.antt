@@ -66,8 +66,8 @@ abbrev pub mostBytes : ℕ
 mostBytes = 9 * mostPixels + 2 * mostTiles
 
 -- the u64 workspace that its reading asks for: 2(w + 1)(h + 1) + 5t numbers, 7,522
-abbrev pub mostWords : ℕ
-mostWords = tableEntries sideLimit sideLimit + 5 * mostTiles
+abbrev pub mostU64s : ℕ
+mostU64s = tableEntries sideLimit sideLimit + 5 * mostTiles
 
 -- a text is written at the start of a buffer, the rest of which is as it was, and its length is the answer
 pub record Prints (text before : List ℕ) (answer : ℕ) (after : List ℕ) : Type 0 where

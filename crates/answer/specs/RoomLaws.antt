@@ -25,7 +25,7 @@ use Rattle.imgproc.specs.RefusalLaws.{then-accepted, passes-last, source-refuse
 use Rattle.imgproc.specs.Reading.{readingSettings, readingRoom}
 use Rattle.pgm.specs.Form.{sideLimit}
 use Rattle.answer.specs.Answer.{settings, tight}
-use Rattle.answer.specs.Program.{empty, mostPixels, mostTiles, mostBytes, mostWords}
+use Rattle.answer.specs.Program.{empty, mostPixels, mostTiles, mostBytes, mostU64s}
 
 -- the program's settings are accepted
 settings-taken : first (readingSettings settings) ≡ Accepted
@@ -60,22 +60,22 @@ module _ (w h : ℕ) (W : 0 < w) (H : 0 < h) (ww : w ≤ sideLimit) (hh : h ≤ 
       omega (arith, mul-le-mul {n₁ = w + 1} {m₁ = h + 1} {n₂ = side} {m₂ = side} (omega arith) (omega arith))
 
   -- its reading is accepted with the program's buffers
-  pub room-enough : (pixels dst bytes words : ℕ) →
-      w * h ≤ pixels → mostPixels ≤ dst → mostBytes ≤ bytes → mostWords ≤ words →
+  pub room-enough : (pixels dst bytes u64s : ℕ) →
+      w * h ≤ pixels → mostPixels ≤ dst → mostBytes ≤ bytes → mostU64s ≤ u64s →
       first
       (pairConditions pixels (tight w h) dst (tight w h)
       then readingSettings settings
-      then readingRoom (tight w h) settings bytes words)
+      then readingRoom (tight w h) settings bytes u64s)
       ≡ Accepted
-  room-enough pixels dst bytes words p d b q =
-      let room = readingRoom (tight w h) settings bytes words in
+  room-enough pixels dst bytes u64s p d b q =
+      let room = readingRoom (tight w h) settings bytes u64s in
       then-accepted (pairConditions pixels (tight w h) dst (tight w h)) (readingSettings settings then room)
       (pair-taken (kept pixels p) (kept dst (omega (arith, area))) refl refl)
       ∙ then-accepted (readingSettings settings) room settings-taken
       ∙ passes-last _ _
       (rw (
         le-ltb bytes (9 * (w * h) + 2 * tileCount (settings .grid) w h) (omega (arith, area, tiles)),
-        le-ltb words (tableEntries w h + 5 * tileCount (settings .grid) w h) (omega (arith, entries, tiles)),
+        le-ltb u64s (tableEntries w h + 5 * tileCount (settings .grid) w h) (omega (arith, entries, tiles)),
       ))
 
 -- a zero side is refused before all else

@@ -36,7 +36,7 @@ const TILES: usize = 4 * 4;
 const BYTES: usize = 9 * PIXELS + 2 * TILES;
 
 // The u64 workspace that it asks for: 2(w + 1)(h + 1) + 5t numbers, 7,522.
-const WORDS: usize = 2 * (pgm::SIDE_LIMIT + 1) * (pgm::SIDE_LIMIT + 1) + 5 * TILES;
+const U64S: usize = 2 * (pgm::SIDE_LIMIT + 1) * (pgm::SIDE_LIMIT + 1) + 5 * TILES;
 
 // Gives the default settings of the published Rust, and an opening with kernel 3.
 fn settings() -> ReadingConfig
@@ -77,7 +77,7 @@ fn answer_picture(
     height: usize,
     dst: &mut [u8],
     bytes: &mut [u8],
-    words: &mut [u64],
+    u64s: &mut [u64],
     out: &mut [u8],
 ) -> usize
     ensures { λ r.
@@ -86,11 +86,11 @@ fn answer_picture(
         (record {
           dst = now (dst .entry);
           bytes = now (bytes .entry);
-          words = now (words .entry);
+          u64s = now (u64s .entry);
           out = now (out .entry);
         })
         r
-        (record { dst = now (dst .exit); bytes = now (bytes .exit); words = now (words .exit); out = now (out .exit) })
+        (record { dst = now (dst .exit); bytes = now (bytes .exit); u64s = now (u64s .exit); out = now (out .exit) })
         ⌝ }
 {
     let geometry = Geometry {
@@ -99,7 +99,7 @@ fn answer_picture(
         stride: width,
     };
     let config = settings();
-    let read = imgproc::reading::reading(pixels, geometry, dst, geometry, config, bytes, words);
+    let read = imgproc::reading::reading(pixels, geometry, dst, geometry, config, bytes, u64s);
     write_read(width, height, read, out)
 }
 
@@ -109,7 +109,7 @@ pub fn answer(
     input: &[u8],
     dst: &mut [u8],
     bytes: &mut [u8],
-    words: &mut [u64],
+    u64s: &mut [u64],
     out: &mut [u8],
 ) -> usize
     ensures { λ r.
@@ -118,17 +118,17 @@ pub fn answer(
         (record {
           dst = now (dst .entry);
           bytes = now (bytes .entry);
-          words = now (words .entry);
+          u64s = now (u64s .entry);
           out = now (out .entry);
         })
         r
-        (record { dst = now (dst .exit); bytes = now (bytes .exit); words = now (words .exit); out = now (out .exit) })
+        (record { dst = now (dst .exit); bytes = now (bytes .exit); u64s = now (u64s .exit); out = now (out .exit) })
         ⌝ }
 {
     let Parsed::Picture(width, height, at) = pgm::parse(input) else {
         return pgm::refused_line(MALFORMED, out);
     };
-    answer_picture(&input[at..], width, height, dst, bytes, words, out)
+    answer_picture(&input[at..], width, height, dst, bytes, u64s, out)
 }
 
 // Answers an input of any length with workspaces of its own, and marks its picture in a destination. A line buffer of
@@ -138,8 +138,8 @@ pub fn answer_and_mark(input: &[u8], dst: &mut [u8; PIXELS], out: &mut [u8]) -> 
         r (now (dst .exit)) (now (out .exit)) ⌝ }
 {
     let mut bytes = [0u8; BYTES];
-    let mut words = [0u64; WORDS];
-    answer(input, dst, &mut bytes, &mut words, out)
+    let mut u64s = [0u64; U64S];
+    answer(input, dst, &mut bytes, &mut u64s, out)
 }
 
 // Gives the part of a buffer that was read: its first n bytes, or all of it where n is more.

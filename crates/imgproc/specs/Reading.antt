@@ -132,15 +132,15 @@ abbrev pub readingBytes : TileThresholdConfig → ℕ → ℕ → ℕ
 readingBytes grid w h = marksAt w h + 2 * tileCount grid w h
 
 -- and the u64s: 2(w + 1)(h + 1) + 5t
-abbrev pub readingWords : TileThresholdConfig → ℕ → ℕ → ℕ
-readingWords grid w h = tableEntries w h + 5 * tileCount grid w h
+abbrev pub readingU64s : TileThresholdConfig → ℕ → ℕ → ℕ
+readingU64s grid w h = tableEntries w h + 5 * tileCount grid w h
 
 -- either workspace too short
 abbrev pub readingRoom : Geometry → ReadingConfig → ℕ → ℕ → Conditions
-readingRoom g s bytes words =
+readingRoom g s bytes u64s =
     refusedIf
     (ltb bytes (readingBytes (s .grid) (g .width) (g .height))
-    || ltb words (readingWords (s .grid) (g .width) (g .height)))
+    || ltb u64s (readingU64s (s .grid) (g .width) (g .height)))
     WorkspaceTooSmall
 
 -- what a reading is lent
@@ -151,13 +151,13 @@ pub record ReadingLent : Type 0 where
   pub target : Geometry
   pub settings : ReadingConfig
   pub bytes : List ℕ
-  pub words : List ℕ
+  pub u64s : List ℕ
 
 -- what is left of it
 pub record ReadingLeft : Type 0 where
   pub dst : List ℕ
   pub bytes : List ℕ
-  pub words : List ℕ
+  pub u64s : List ℕ
 
 -- what `Read` says: the four numbers, or the number of the refusal
 abbrev pub numbersOf : ReadingCounts → ReadingNumbers
@@ -173,7 +173,7 @@ abbrev pub readingConditionsBy : Conditions → ReadingLent → Conditions
 readingConditionsBy settings lent =
     pairConditions (length (lent .src)) (lent .source) (length (lent .dst)) (lent .target) then
     settings then
-    readingRoom (lent .source) (lent .settings) (length (lent .bytes)) (length (lent .words))
+    readingRoom (lent .source) (lent .settings) (length (lent .bytes)) (length (lent .u64s))
 
 abbrev pub readingConditions : ReadingLent → Conditions
 readingConditions lent = readingConditionsBy (readingSettings (lent .settings)) lent
@@ -193,7 +193,7 @@ pub record ReadsBy (cs : Conditions) (lent : ReadingLent) (answer : Answer Readi
   pub answers : answer ≡ answerBy (first cs) (numbersFrom lent)
   pub leaves : left .dst ≡ leftBy (first cs) (marksFrom lent) (lent .dst)
   pub bytes-left : Lent (first cs) (lent .bytes) (left .bytes)
-  pub words-left : Lent (first cs) (lent .words) (left .words)
+  pub u64s-left : Lent (first cs) (lent .u64s) (left .u64s)
 
 -- the contract of a reading
 abbrev pub Reads : ReadingLent → Answer ReadingNumbers → ReadingLeft → Type 0

@@ -172,7 +172,7 @@ module _ (a : AcceptedReading) where
 
   parts : (first pairs ≡ Accepted) × (first (readingSettings settingsOf) ≡ Accepted)
   parts =
-      let room = readingRoom (a .lent .source) settingsOf (length (a .lent .bytes)) (length (a .lent .words)) in
+      let room = readingRoom (a .lent .source) settingsOf (length (a .lent .bytes)) (length (a .lent .u64s)) in
       let p = both-accepted pairs (readingSettings settingsOf then room) (said .0) in
       (p .0, both-accepted (readingSettings settingsOf) room (p .1) .0)
 

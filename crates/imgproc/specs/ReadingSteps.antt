@@ -25,7 +25,7 @@ use Rattle.imgproc.specs.Reading.{
   pixels,
   byteOf,
   readingBytes,
-  readingWords,
+  readingU64s,
   ReadingLent,
   ReadingLeft,
   numbersOf,
@@ -95,31 +95,31 @@ pub record Opened (tally : Tally) (src : List ℕ) (g : Geometry) (s : ReadingCo
   pub long : length ws′ ≡ length ws
 
 -- what `mark_tiles` asks, and leaves: the opened picture stands packed at the workspace's start, its skips from `at` on
-pub record MarkReady (g : Geometry) (s : ReadingConfig) (at : ℕ) (bytes words : List ℕ) : Type 0 where
+pub record MarkReady (g : Geometry) (s : ReadingConfig) (at : ℕ) (bytes u64s : List ℕ) : Type 0 where
   pub layout : Kept (g .width * g .height) g
   pub tight : g .stride ≡ g .width
   pub tile-width : 0 < s .grid .«tile_width»
   pub tile-height : 0 < s .grid .«tile_height»
   pub behind : g .width * g .height ≤ at
   pub bytes-fit : at + tilesX (s .grid) (g .width) * tilesY (s .grid) (g .height) ≤ length bytes
-  pub words-fit : 5 * (tilesX (s .grid) (g .width) * tilesY (s .grid) (g .height)) ≤ length words
+  pub u64s-fit : 5 * (tilesX (s .grid) (g .width) * tilesY (s .grid) (g .height)) ≤ length u64s
 
-pub record Marks (g : Geometry) (s : ReadingConfig) (at : ℕ) (bytes words bytes′ words′ : List ℕ) : Type 0 where
+pub record Marks (g : Geometry) (s : ReadingConfig) (at : ℕ) (bytes u64s bytes′ u64s′ : List ℕ) : Type 0 where
   pub opened : part 0 (g .width * g .height) bytes′ ≡ part 0 (g .width * g .height) bytes
   pub skips :
       part at (tilesX (s .grid) (g .width) * tilesY (s .grid) (g .height)) bytes′
       ≡ skips (s .grid) (g .width) (g .height) (part 0 (g .width * g .height) bytes)
   pub bytes-long : length bytes′ ≡ length bytes
-  pub words-long : length words′ ≡ length words
+  pub u64s-long : length u64s′ ≡ length u64s
 
 -- what `judge_picture` asks: the opened picture and its skips stand in the byte workspace, and the u64 workspace has
 -- room for the tables
-pub record JudgeRoom (g : Geometry) (s : ReadingConfig) (at : ℕ) (bytes words : List ℕ) : Type 0 where
-  pub marks : MarkReady g s at bytes words
+pub record JudgeRoom (g : Geometry) (s : ReadingConfig) (at : ℕ) (bytes u64s : List ℕ) : Type 0 where
+  pub marks : MarkReady g s at bytes u64s
   pub skips :
       part at (tilesX (s .grid) (g .width) * tilesY (s .grid) (g .height)) bytes
       ≡ skips (s .grid) (g .width) (g .height) (part 0 (g .width * g .height) bytes)
-  pub tables-fit : tableEntries (g .width) (g .height) ≤ length words
+  pub tables-fit : tableEntries (g .width) (g .height) ≤ length u64s
   pub settings : InRange (s .sauvola)
 
 -- what accepted settings say (`says` of proofs/reading/Ways)
@@ -137,12 +137,12 @@ pub record ReadReady (lent : ReadingLent) : Type 0 where
   pub settings : Usable (lent .settings)
   pub bytes-fit :
       readingBytes (lent .settings .grid) (lent .source .width) (lent .source .height) ≤ length (lent .bytes)
-  pub words-fit :
-      readingWords (lent .settings .grid) (lent .source .width) (lent .source .height) ≤ length (lent .words)
+  pub u64s-fit :
+      readingU64s (lent .settings .grid) (lent .source .width) (lent .source .height) ≤ length (lent .u64s)
 
 -- and what it leaves
 pub record ReadDone (lent : ReadingLent) (counts : ReadingCounts) (left : ReadingLeft) : Type 0 where
   pub counted : numbersOf counts ≡ numbersFrom lent
   pub leaves : left .dst ≡ marksFrom lent
   pub bytes-long : length (left .bytes) ≡ length (lent .bytes)
-  pub words-long : length (left .words) ≡ length (lent .words)
+  pub u64s-long : length (left .u64s) ≡ length (lent .u64s)

@@ -112,7 +112,7 @@ module _ {lent : ReadingLent} {answer : Answer ReadingNumbers} {left : ReadingLe
   reading-exactly = by-list (numbersFrom lent) (readingConditions lent) (reads .answers)
 
   pub reading-keeps : {n : ℕ} → answer ≡ refused n
-      → (left .dst ≡ lent .dst) × ((left .bytes ≡ lent .bytes) × (left .words ≡ lent .words))
+      → (left .dst ≡ lent .dst) × ((left .bytes ≡ lent .bytes) × (left .u64s ≡ lent .u64s))
   reading-keeps p =
       let r = refuses (numbersFrom lent) (first (readingConditions lent)) (sym (reads .answers) ∙ p) .is in
-      (reads .leaves ∙ rw r, (rw r at (reads .bytes-left), rw r at (reads .words-left)))
+      (reads .leaves ∙ rw r, (rw r at (reads .bytes-left), rw r at (reads .u64s-left)))

@@ -1,5 +1,5 @@
--- The tally's words: n more were counted, n more fit, it stands at n; and the laws about them. Assumes nothing.
--- Contracts, loops and owners go by these words: nobody but src/tally.rt, this file and the answers reads the number of a tally.
+-- The records of the tally: n more were counted, n more fit, it stands at n; and the laws about them. Assumes nothing.
+-- Contracts, loops and owners go by these records: nobody but src/morphology/tally.rt, this file and the answers reads the number of a tally.
 use Prim.Native.Nat.{ℕ, _+_, _^_, _≤_, _<_}
 use mathlib.Core.Path.{_≡_}
 use native.Mathlib.Omega.{arith}

@@ -65,24 +65,24 @@ fn mark_tiles(
     config: ReadingConfig,
     bytes: &mut [u8],
     marks: usize,
-    words: &mut [u64],
+    u64s: &mut [u64],
 )
-    requires { ⌜ MarkReady packed config marks (now bytes) (now words) ⌝ }
+    requires { ⌜ MarkReady packed config marks (now bytes) (now u64s) ⌝ }
     ensures { λ _.
         ⌜
         Marks packed config marks
         (now (bytes .entry))
-        (now (words .entry))
+        (now (u64s .entry))
         (now (bytes .exit))
-        (now (words .exit))
+        (now (u64s .exit))
         ⌝ }
 {
     let width = packed.width;
     let height = packed.height;
     let plane = width * height;
     let grid = config.grid;
-    gather(&bytes[..plane], packed, grid, words, 0);
-    write_skips(words, 0, width, height, grid, bytes, marks);
+    gather(&bytes[..plane], packed, grid, u64s, 0);
+    write_skips(u64s, 0, width, height, grid, bytes, marks);
 }
 
 // Does the work of an accepted reading: one tally, started at 0, goes through the closing and the opening.
@@ -93,7 +93,7 @@ fn read_picture(
     dst_geometry: Geometry,
     config: ReadingConfig,
     bytes: &mut [u8],
-    words: &mut [u64],
+    u64s: &mut [u64],
 ) -> ReadingCounts
     requires { ⌜
         ReadReady
@@ -104,7 +104,7 @@ fn read_picture(
           target = «dst_geometry»;
           settings = config;
           bytes = now bytes;
-          words = now words;
+          u64s = now u64s;
         })
         ⌝ }
     ensures { λ r.
@@ -117,10 +117,10 @@ fn read_picture(
           target = «dst_geometry»;
           settings = config;
           bytes = now (bytes .entry);
-          words = now (words .entry);
+          u64s = now (u64s .entry);
         })
         r
-        (record { dst = now (dst .exit); bytes = now (bytes .exit); words = now (words .exit) })
+        (record { dst = now (dst .exit); bytes = now (bytes .exit); u64s = now (u64s .exit) })
         ⌝ }
 {
     let packed = Geometry {
@@ -130,8 +130,8 @@ fn read_picture(
     };
     let marks = PLANES * (src_geometry.width * src_geometry.height);
     let tally = flatten_and_open(start(), src, src_geometry, config, bytes);
-    mark_tiles(packed, config, bytes, marks, words);
-    let judged = judge_picture(packed, config, bytes, marks, words, dst, dst_geometry);
+    mark_tiles(packed, config, bytes, marks, u64s);
+    let judged = judge_picture(packed, config, bytes, marks, u64s, dst, dst_geometry);
     ReadingCounts {
         dark: judged.dark,
         light: judged.light,
@@ -166,10 +166,10 @@ pub(crate) fn check_room(
     geometry: Geometry,
     config: ReadingConfig,
     bytes: usize,
-    words: usize,
+    u64s: usize,
 ) -> Check
     requires { ⌜ Sized (config .grid) (geometry .width) (geometry .height) ⌝ }
-    ensures { λ r. ⌜ r ≡ first (readingRoom geometry config bytes words) ⌝ }
+    ensures { λ r. ⌜ r ≡ first (readingRoom geometry config bytes u64s) ⌝ }
 {
     let grid = config.grid;
     let width = geometry.width;
@@ -178,7 +178,7 @@ pub(crate) fn check_room(
     if bytes < PLANES * (width * height) + 2 * count {
         return Check::Refused(ImgProcError::WorkspaceTooSmall);
     }
-    if words < 2 * ((width + 1) * (height + 1)) + 5 * count {
+    if u64s < 2 * ((width + 1) * (height + 1)) + 5 * count {
         return Check::Refused(ImgProcError::WorkspaceTooSmall);
     }
     Check::Accepted
@@ -192,7 +192,7 @@ pub fn reading(
     dst_geometry: Geometry,
     config: ReadingConfig,
     bytes: &mut [u8],
-    words: &mut [u64],
+    u64s: &mut [u64],
 ) -> Read
     ensures { λ r.
         ⌜
@@ -204,10 +204,10 @@ pub fn reading(
           target = «dst_geometry»;
           settings = config;
           bytes = now (bytes .entry);
-          words = now (words .entry);
+          u64s = now (u64s .entry);
         })
         (readAnswer r)
-        (record { dst = now (dst .exit); bytes = now (bytes .exit); words = now (words .exit) })
+        (record { dst = now (dst .exit); bytes = now (bytes .exit); u64s = now (u64s .exit) })
         ⌝ }
 {
     let layout = image::validate_layout(src.len(), src_geometry);
@@ -228,9 +228,9 @@ pub fn reading(
     if let Check::Refused(error) = settings {
         return Read::Refused(error);
     }
-    let room = check_room(g, config, bytes.len(), words.len());
+    let room = check_room(g, config, bytes.len(), u64s.len());
     if let Check::Refused(error) = room {
         return Read::Refused(error);
     }
-    Read::Counts(read_picture(src, g, dst, h, config, bytes, words))
+    Read::Counts(read_picture(src, g, dst, h, config, bytes, u64s))
 }

@@ -42,7 +42,7 @@ lentWith lent z m =
       target = lent .target;
       settings = readingFrom (s .division) (s .«opening_kernel») (settingsWith (s .grid) z m) (s .sauvola);
       bytes = lent .bytes;
-      words = lent .words;
+      u64s = lent .u64s;
     }
 
 -- the method is refused where the grid's settings would be
@@ -76,7 +76,7 @@ reads {lent} {used} {told} {left} n k range fits is used-is b t =
     let own : Reads lent told left =
     subst (λ (m : TileThresholdMethod). Reads (lentWith lent (s .grid .«threshold_offset») m) told left) (used-is ∙ sym is) by-offset in
     let pair = pairConditions (length (lent .src)) (lent .source) (length (lent .dst)) (lent .target) in
-    let room = readingRoom (lent .source) s (length (lent .bytes)) (length (lent .words)) in
+    let room = readingRoom (lent .source) s (length (lent .bytes)) (length (lent .u64s)) in
     let mine = readingSettings s in
     let theirs = numberSettings n s in
     let same : first (readingConditions lent) ≡ first (numberConditions n lent) =
@@ -86,7 +86,7 @@ reads {lent} {used} {told} {left} n k range fits is used-is b t =
         answers = refl;
         leaves = rw (sym same) (own .leaves);
         bytes-left = rw (sym same) (own .bytes-left);
-        words-left = rw (sym same) (own .words-left);
+        u64s-left = rw (sym same) (own .u64s-left);
       };
       tells = tells-as (own .answers ∙ ap (λ (c : Check). answerBy c (numbersFrom lent)) same) t;
     }

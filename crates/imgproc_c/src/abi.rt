@@ -3,8 +3,8 @@
 ghost use mathlib.Core.Path.{_≡_};
 
 #[no_mangle]
-pub extern "C" fn imgproc_abi_1() -> u32
-    ensures { λ r. ⌜ r ≡ 1 ⌝ }
+pub extern "C" fn imgproc_abi_2() -> u32
+    ensures { λ r. ⌜ r ≡ 2 ⌝ }
 {
-    1
+    2
 }

@@ -55,12 +55,7 @@ pub extern "C" fn imgproc_tile_grid_build(
         (record {
           src = now (src .entry);
           source = geometry width height stride;
-          settings = settings
-              «tile_width»
-              «tile_height»
-              «neighborhood_radius»
-              «threshold_offset»
-              «contrast_floor»
+          settings = settings «tile_width» «tile_height» «neighborhood_radius» «threshold_offset» «contrast_floor»
               (methodOf method k «dynamic_range»);
           workspace = now (workspace .entry);
           thresholds = now (thresholds .entry);
@@ -107,9 +102,7 @@ pub extern "C" fn imgproc_threshold_at(
         Tells
         (thresholdAsked
         (grid width height «tile_width» «tile_height» «tiles_x» «tiles_y»)
-        (now (thresholds .entry))
-        x
-        y)
+        (now (thresholds .entry)) x y)
         (now (value .entry))
         r
         (now (value .exit))
@@ -144,9 +137,7 @@ pub extern "C" fn imgproc_is_skip(
         Tells
         (asByte (skipAsked
         (grid width height «tile_width» «tile_height» «tiles_x» «tiles_y»)
-        (now (skips .entry))
-        x
-        y))
+        (now (skips .entry)) x y))
         (now (value .entry))
         r
         (now (value .exit))
@@ -180,8 +171,7 @@ pub extern "C" fn imgproc_row_all_skip(
         Tells
         (asByte (rowSkipAsked
         (grid width height «tile_width» «tile_height» «tiles_x» «tiles_y»)
-        (now (skips .entry))
-        y))
+        (now (skips .entry)) y))
         (now (value .entry))
         r
         (now (value .exit))

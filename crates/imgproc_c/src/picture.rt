@@ -43,9 +43,7 @@ pub extern "C" fn imgproc_get(
         Tells
         (valueIn
         (pixelLayout (length (now («data» .entry))) (geometry width height stride) x y)
-        (now («data» .entry))
-        x
-        y)
+        (now («data» .entry)) x y)
         (now (value .entry))
         r
         (now (value .exit))

@@ -39,7 +39,7 @@ pub extern "C" fn imgproc_reading(
     dark_value: u8,
     light_value: u8,
     bytes: &mut [u8],
-    words: &mut [u64],
+    u64s: &mut [u64],
     dark: &mut u64,
     light: &mut u64,
     skipped: &mut u64,
@@ -56,16 +56,11 @@ pub extern "C" fn imgproc_reading(
           settings = readingFrom
               (divisionFrom «structuring_element» «target_luma» «denominator_floor»)
               «opening_kernel»
-              (settings
-              «tile_width»
-              «tile_height»
-              «neighborhood_radius»
-              «threshold_offset»
-              «contrast_floor»
+              (settings «tile_width» «tile_height» «neighborhood_radius» «threshold_offset» «contrast_floor»
               (methodOf method k «dynamic_range»))
               (sauvolaFrom radius «k_milli» «sauvola_dynamic_range» «dark_value» «light_value»);
           bytes = now (bytes .entry);
-          words = now (words .entry);
+          u64s = now (u64s .entry);
         })
         (record {
           dark = now (dark .entry);
@@ -74,7 +69,7 @@ pub extern "C" fn imgproc_reading(
           comparisons = now (comparisons .entry);
         })
         r
-        (record { dst = now (dst .exit); bytes = now (bytes .exit); words = now (words .exit) })
+        (record { dst = now (dst .exit); bytes = now (bytes .exit); u64s = now (u64s .exit) })
         (record {
           dark = now (dark .exit);
           light = now (light .exit);
@@ -116,6 +111,6 @@ pub extern "C" fn imgproc_reading(
             light_value,
         },
     };
-    let answer = imgproc::reading::reading(src, source, dst, target, config, bytes, words);
+    let answer = imgproc::reading::reading(src, source, dst, target, config, bytes, u64s);
     read(answer, dark, light, skipped, comparisons)
 }

@@ -17,7 +17,7 @@ fn step(state: usize) -> usize {
 }
 
 // Makes a u64 of noise, both halves of which are the state.
-fn noise_word(state: usize) -> u64 {
+fn noise_u64(state: usize) -> u64 {
     (state % 4294967296 * 4294967297) as u64
 }
 
@@ -78,24 +78,24 @@ pub fn same(data: &[u8], numbers: &[usize], part: Part, seed: usize) -> bool {
 }
 
 // Fills a u64 workspace with the noise of a seed.
-pub fn fill_words(data: &mut [u64], seed: usize) {
+pub fn fill_u64s(data: &mut [u64], seed: usize) {
     let mut state = start(seed);
     let mut i = 0;
     while i < data.len() {
         state = step(state);
-        data[i] = noise_word(state);
+        data[i] = noise_u64(state);
         i += 1;
     }
 }
 
 // Tests whether a u64 workspace holds the noise of a seed.
-pub fn same_words(data: &[u64], seed: usize) -> bool {
+pub fn same_u64s(data: &[u64], seed: usize) -> bool {
     let mut right = true;
     let mut state = start(seed);
     let mut i = 0;
     while i < data.len() {
         state = step(state);
-        right = right && data[i] == noise_word(state);
+        right = right && data[i] == noise_u64(state);
         i += 1;
     }
     right

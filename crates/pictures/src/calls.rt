@@ -58,17 +58,17 @@ fn compared(f: Numbers, from: &[u8], to: &mut [u8], bytes: &mut [u8]) -> Answer 
     }
 }
 
-fn sauvola(f: Numbers, from: &[u8], to: &mut [u8], words: &mut [u64]) -> Answer {
+fn sauvola(f: Numbers, from: &[u8], to: &mut [u8], u64s: &mut [u64]) -> Answer {
     let g = settings::source(f);
     let h = settings::destination(f);
     let s = settings::window(f[7], f[8], f[9], f[10], f[11]);
-    reply::binarized(threshold::sauvola_into(from, g, to, h, s, words))
+    reply::binarized(threshold::sauvola_into(from, g, to, h, s, u64s))
 }
 
-fn build(f: Numbers, from: &[u8], to: &mut [u8], other: &mut [u8], words: &mut [u64]) -> Answer {
+fn build(f: Numbers, from: &[u8], to: &mut [u8], other: &mut [u8], u64s: &mut [u64]) -> Answer {
     let g = settings::source(f);
     let s = settings::grid(f);
-    reply::built(TileThresholdGrid::build(from, g, s, words, to, other))
+    reply::built(TileThresholdGrid::build(from, g, s, u64s, to, other))
 }
 
 fn query(f: Numbers, from: &[u8]) -> Answer {
@@ -81,11 +81,11 @@ fn query(f: Numbers, from: &[u8]) -> Answer {
     }
 }
 
-fn read(f: Numbers, from: &[u8], to: &mut [u8], bytes: &mut [u8], words: &mut [u64]) -> Answer {
+fn read(f: Numbers, from: &[u8], to: &mut [u8], bytes: &mut [u8], u64s: &mut [u64]) -> Answer {
     let g = settings::source(f);
     let h = settings::destination(f);
     let s = settings::reading(f);
-    reply::read(reading::reading(from, g, to, h, s, bytes, words))
+    reply::read(reading::reading(from, g, to, h, s, bytes, u64s))
 }
 
 // Makes the call of the first number. The program's answer has no number: its list says whether the call leaves all but
@@ -96,17 +96,17 @@ pub fn call(
     to: &mut [u8],
     other: &mut [u8],
     bytes: &mut [u8],
-    words: &mut [u64],
+    u64s: &mut [u64],
 ) -> Answer {
     let which = f[0];
     match which {
         0..=8 => picture(f, from, to),
         9..=13 => compared(f, from, to, bytes),
-        14 => sauvola(f, from, to, words),
-        15 => build(f, from, to, other, words),
+        14 => sauvola(f, from, to, u64s),
+        15 => build(f, from, to, other, u64s),
         16..=18 => query(f, from),
-        19 => read(f, from, to, bytes, words),
-        20 => [f[1], answer::answer(from, to, bytes, words, other), 0, 0, 0],
+        19 => read(f, from, to, bytes, u64s),
+        20 => [f[1], answer::answer(from, to, bytes, u64s, other), 0, 0, 0],
         _ => reply::numbered(999),
     }
 }

@@ -1,5 +1,5 @@
 // Runs a case: fills what is lent, makes the call, and compares the answer and what is left. A line's sections are the
-// call and its numbers; the lengths of the slices from, to, other, bytes and words; the answer; then the bytes of from
+// call and its numbers; the lengths of the slices from, to, other, bytes and u64s; the answer; then the bytes of from
 // before the call, of to before it, of to after it and of other after it. A slice with no bytes listed before holds
 // noise. No call writes `from`. A slice that is not listed after a call has to be as before if the call was refused,
 // and may else hold anything.
@@ -33,13 +33,13 @@ fn fill(
     to: &mut [u8],
     other: &mut [u8],
     bytes: &mut [u8],
-    words: &mut [u64],
+    u64s: &mut [u64],
 ) {
     buffers::fill(from, n, c.from, c.seed);
     buffers::fill(to, n, c.before, wrapping_add_usize(c.seed, 1));
     buffers::fill(other, n, NOISE, wrapping_add_usize(c.seed, 2));
     buffers::fill(bytes, n, NOISE, wrapping_add_usize(c.seed, 3));
-    buffers::fill_words(words, wrapping_add_usize(c.seed, 4));
+    buffers::fill_u64s(u64s, wrapping_add_usize(c.seed, 4));
 }
 
 // Tests whether a slice that a call may write holds what it should.
@@ -50,9 +50,9 @@ fn left(data: &[u8], n: &[usize], before: Part, after: Part, refused: bool, seed
     !refused || buffers::same(data, n, before, seed)
 }
 
-fn left_workspaces(n: &[usize], bytes: &[u8], words: &[u64], refused: bool, seed: usize) -> bool {
-    let words_left = !refused || buffers::same_words(words, wrapping_add_usize(seed, 4));
-    words_left && left(bytes, n, NOISE, NOISE, refused, wrapping_add_usize(seed, 3))
+fn left_workspaces(n: &[usize], bytes: &[u8], u64s: &[u64], refused: bool, seed: usize) -> bool {
+    let u64s_left = !refused || buffers::same_u64s(u64s, wrapping_add_usize(seed, 4));
+    u64s_left && left(bytes, n, NOISE, NOISE, refused, wrapping_add_usize(seed, 3))
 }
 
 // Tests a source and two destinations; `r` says that the call was refused.
@@ -71,16 +71,16 @@ fn judge(
     to: &mut [u8],
     other: &mut [u8],
     bytes: &mut [u8],
-    words: &mut [u64],
+    u64s: &mut [u64],
 ) -> bool {
-    fill(c, n, from, to, other, bytes, words);
+    fill(c, n, from, to, other, bytes, u64s);
     let call = c.call;
-    let answer = calls::call(call, from, to, other, bytes, words);
+    let answer = calls::call(call, from, to, other, bytes, u64s);
     let refused = answer[0] != 0;
     let expected = c.answer;
     reply::is(answer, expected)
         && left_slices(c, n, from, to, other, refused)
-        && left_workspaces(n, bytes, words, refused, c.seed)
+        && left_workspaces(n, bytes, u64s, refused, c.seed)
 }
 
 fn lend(c: Case, n: &[usize], lengths: [usize; 5]) -> bool {
@@ -88,7 +88,7 @@ fn lend(c: Case, n: &[usize], lengths: [usize; 5]) -> bool {
     let mut to = [0u8; 8192];
     let mut other = [0u8; 256];
     let mut bytes = [0u8; 40960];
-    let mut words = [0u64; 18432];
+    let mut u64s = [0u64; 18432];
     let a = lengths[0];
     let b = lengths[1];
     let o = lengths[2];
@@ -104,7 +104,7 @@ fn lend(c: Case, n: &[usize], lengths: [usize; 5]) -> bool {
         &mut to[0..b],
         &mut other[0..o],
         &mut bytes[0..s],
-        &mut words[0..w],
+        &mut u64s[0..w],
     )
 }
 

@@ -14,8 +14,8 @@ use replay::Score;
 // Every list is shorter than this.
 const LONGEST: usize = 131072;
 
-fn write_count(words: &[u8], count: usize) {
-    io::write_all(STDOUT_FILENO, words);
+fn write_count(text: &[u8], count: usize) {
+    io::write_all(STDOUT_FILENO, text);
     io::print_decimal(STDOUT_FILENO, count as u64);
 }
 

@@ -1,7 +1,7 @@
 //! Times the reading with the default settings against a chain of the Rust's calls, which keeps its own buffers.
 
 use crate::time::{row, Pair, Row};
-use imgproc::reading::{bytes_len, reading, words_len, ReadingConfig};
+use imgproc::reading::{bytes_len, reading, u64s_len, ReadingConfig};
 use imgproc::Geometry;
 use qr_lab_image::{Gray8View, Gray8ViewMut};
 use qr_lab_imgproc::illumination::{background_divide_into, BackgroundDivideConfig, IlluminationWorkspace};
@@ -13,7 +13,7 @@ use qr_lab_imgproc::threshold::{
 struct Lent {
     pair: Pair,
     bytes: Vec<u8>,
-    words: Vec<u64>,
+    u64s: Vec<u64>,
     theirs: Theirs,
 }
 
@@ -32,7 +32,7 @@ fn lent(width: usize, height: usize) -> Lent {
     Lent {
         pair: Pair::new(width, height),
         bytes: vec![0; bytes_len(width, height, &grid)],
-        words: vec![0; words_len(width, height, &grid)],
+        u64s: vec![0; u64s_len(width, height, &grid)],
         theirs: Theirs { flat: plane(), opened: plane(), ..Theirs::default() },
     }
 }
@@ -73,7 +73,7 @@ pub fn measure(rows: &mut Vec<Row>) {
         lent,
         |l| {
             let Pair { src, dst, g } = &mut l.pair;
-            reading(src, *g, dst, *g, &config, &mut l.bytes, &mut l.words).expect("accepted");
+            reading(src, *g, dst, *g, &config, &mut l.bytes, &mut l.u64s).expect("accepted");
         },
         |l| chain(&mut l.pair, &mut l.theirs),
         |l| &l.pair.dst,

@@ -9,7 +9,7 @@ use std::borrow::Cow;
 /// A buffer as our side left it.
 pub enum Buffer {
     Bytes(Guarded<u8>),
-    Words(Guarded<u64>),
+    U64s(Guarded<u64>),
 }
 
 /// The numbers written through pointers, by name.
@@ -91,7 +91,7 @@ fn compare(expected: &Expected<'_>, outcome: &Outcome) -> Result<(), String> {
     for (index, (left, buffer)) in expected.lent.iter().zip(&outcome.lent).enumerate() {
         let whole = match buffer {
             Buffer::Bytes(bytes) => bytes.whole(),
-            Buffer::Words(words) => words.whole(),
+            Buffer::U64s(u64s) => u64s.whole(),
         };
         if !whole {
             return Err(format!("something was written before or past lent buffer {index}"));
@@ -100,8 +100,8 @@ fn compare(expected: &Expected<'_>, outcome: &Outcome) -> Result<(), String> {
             (Left::Open, _) => {}
             (Left::Bytes(want), Buffer::Bytes(got)) => same(index, want, got)?,
             (Left::Noise(seed), Buffer::Bytes(got)) => same(index, &u8::noise(got.len(), *seed), got)?,
-            (Left::Noise(seed), Buffer::Words(got)) => same(index, &u64::noise(got.len(), *seed), got)?,
-            (Left::Bytes(_), Buffer::Words(_)) => unreachable!("words are noise or open"),
+            (Left::Noise(seed), Buffer::U64s(got)) => same(index, &u64::noise(got.len(), *seed), got)?,
+            (Left::Bytes(_), Buffer::U64s(_)) => unreachable!("u64s are noise or open"),
         }
     }
     Ok(())

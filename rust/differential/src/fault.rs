@@ -92,7 +92,7 @@ fn flip(outcome: &mut Outcome, place: Option<(usize, usize)>) -> bool {
     };
     match outcome.lent.get_mut(buffer) {
         Some(Buffer::Bytes(bytes)) if at < bytes.len() => bytes[at] ^= 1,
-        Some(Buffer::Words(words)) if at < words.len() => words[at] ^= 1,
+        Some(Buffer::U64s(u64s)) if at < u64s.len() => u64s[at] ^= 1,
         _ => return false,
     }
     true
@@ -101,7 +101,7 @@ fn flip(outcome: &mut Outcome, place: Option<(usize, usize)>) -> bool {
 fn flip_past(outcome: &mut Outcome, buffer: usize) -> bool {
     match outcome.lent.get_mut(buffer) {
         Some(Buffer::Bytes(bytes)) => *bytes.past() ^= 1,
-        Some(Buffer::Words(words)) => *words.past() ^= 1,
+        Some(Buffer::U64s(u64s)) => *u64s.past() ^= 1,
         None => return false,
     }
     true

@@ -77,7 +77,7 @@ impl Operator for Sauvola {
     }
 
     fn buffer(workspace: Guarded<u64>) -> Buffer {
-        Buffer::Words(workspace)
+        Buffer::U64s(workspace)
     }
 }
 

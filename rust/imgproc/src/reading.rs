@@ -124,7 +124,7 @@ pub mod flat {
     #[allow(clippy::too_many_arguments)]
     pub fn reading(
         src: &[u8], s: Geometry, dst: &mut [u8], d: Geometry, config: &ReadingConfig, method: u32, k: f64,
-        dynamic_range: f64, bytes: &mut [u8], words: &mut [u64], counts: &mut ReadingCounts,
+        dynamic_range: f64, bytes: &mut [u8], u64s: &mut [u64], counts: &mut ReadingCounts,
     ) -> u32 {
         let ReadingConfig { division, opening_kernel, grid, sauvola } = *config;
         call!(imgproc_reading(
@@ -134,17 +134,17 @@ pub mod flat {
             grid.tile_width, grid.tile_height, grid.neighborhood_radius, grid.threshold_offset, grid.contrast_floor,
             method, k, dynamic_range,
             sauvola.radius, sauvola.k_milli, sauvola.dynamic_range, sauvola.dark_value, sauvola.light_value,
-            [mut bytes], [mut words],
+            [mut bytes], [mut u64s],
             &mut counts.dark, &mut counts.light, &mut counts.skipped, &mut counts.comparisons
         ))
     }
 }
 
 /// Judges every pixel and writes the rows of `dst`: `dark_value` for a dark one, `light_value` for a light or skipped
-/// one. The workspaces need [`bytes_len`] bytes and [`words_len`] u64s; a [`ReadingWorkspace`] owns such workspaces.
+/// one. The workspaces need [`bytes_len`] bytes and [`u64s_len`] u64s; a [`ReadingWorkspace`] owns such workspaces.
 ///
 /// ```
-/// use imgproc::reading::{bytes_len, reading, words_len, ReadingConfig};
+/// use imgproc::reading::{bytes_len, reading, u64s_len, ReadingConfig};
 /// use imgproc::Geometry;
 ///
 /// // A dark column, 4 pixels wide and 20 high, in a light picture of 24 × 30.
@@ -156,8 +156,8 @@ pub mod flat {
 /// let config = ReadingConfig::default();
 /// let mut marked = vec![0; geometry.area()];
 /// let mut bytes = vec![0; bytes_len(24, 30, &config.grid)];
-/// let mut words = vec![0; words_len(24, 30, &config.grid)];
-/// let counts = reading(&picture, geometry, &mut marked, geometry, &config, &mut bytes, &mut words)?;
+/// let mut u64s = vec![0; u64s_len(24, 30, &config.grid)];
+/// let counts = reading(&picture, geometry, &mut marked, geometry, &config, &mut bytes, &mut u64s)?;
 /// assert_eq!((counts.dark, counts.light, counts.skipped), (80, 640, 0));
 /// assert_eq!(marked[29 * 24 + 10], config.sauvola.dark_value);
 /// # Ok::<(), imgproc::Refusal>(())
@@ -170,7 +170,7 @@ pub mod flat {
 /// threshold), then 8 if a workspace is too short.
 pub fn reading(
     src: &[u8], src_geometry: Geometry, dst: &mut [u8], dst_geometry: Geometry, config: &ReadingConfig,
-    bytes: &mut [u8], words: &mut [u64],
+    bytes: &mut [u8], u64s: &mut [u64],
 ) -> Result<ReadingCounts, Refusal> {
     let (method, k, dynamic_range) = config.grid.method.numbers();
     let mut counts = ReadingCounts::default();
@@ -184,7 +184,7 @@ pub fn reading(
         k,
         dynamic_range,
         bytes,
-        words,
+        u64s,
         &mut counts,
     ))?;
     Ok(counts)
@@ -212,7 +212,7 @@ pub fn reading(
 pub struct ReadingWorkspace {
     config: ReadingConfig,
     bytes: Vec<u8>,
-    words: Vec<u64>,
+    u64s: Vec<u64>,
 }
 
 impl ReadingWorkspace {
@@ -227,8 +227,8 @@ impl ReadingWorkspace {
         config.check()?;
         let Geometry { width, height, .. } = geometry;
         let bytes = vec![0; bytes_len(width, height, &config.grid)];
-        let words = vec![0; words_len(width, height, &config.grid)];
-        Ok(Self { config: *config, bytes, words })
+        let u64s = vec![0; u64s_len(width, height, &config.grid)];
+        Ok(Self { config: *config, bytes, u64s })
     }
 
     /// Returns the settings.
@@ -246,18 +246,18 @@ impl ReadingWorkspace {
     pub fn reading(
         &mut self, src: &[u8], src_geometry: Geometry, dst: &mut [u8], dst_geometry: Geometry,
     ) -> Result<ReadingCounts, Refusal> {
-        reading(src, src_geometry, dst, dst_geometry, &self.config, &mut self.bytes, &mut self.words)
+        reading(src, src_geometry, dst, dst_geometry, &self.config, &mut self.bytes, &mut self.u64s)
     }
 }
 
 /// Shows the lengths of the workspaces in place of their contents.
 impl fmt::Debug for ReadingWorkspace {
     fn fmt(&self, f: &mut fmt::Formatter<'_>) -> fmt::Result {
-        let Self { config, bytes, words } = self;
+        let Self { config, bytes, u64s } = self;
         f.debug_struct("ReadingWorkspace")
             .field("config", config)
             .field("bytes", &bytes.len())
-            .field("words", &words.len())
+            .field("u64s", &u64s.len())
             .finish()
     }
 }
@@ -269,6 +269,6 @@ pub const fn bytes_len(width: usize, height: usize, grid: &TileThresholdConfig) 
 }
 
 /// Returns the length of the u64 workspace that a picture needs. For settings that are refused it means nothing.
-pub const fn words_len(width: usize, height: usize, grid: &TileThresholdConfig) -> usize {
+pub const fn u64s_len(width: usize, height: usize, grid: &TileThresholdConfig) -> usize {
     sauvola::workspace_len(width, height).saturating_add(grid::workspace_len(width, height, grid))
 }

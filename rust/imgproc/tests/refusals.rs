@@ -1,7 +1,7 @@
 //! Tests the refusals: their numbers, their words, and that a check of settings finds what a call is refused for.
 
 use imgproc::grid::TileThresholdMethod;
-use imgproc::reading::{bytes_len, reading, words_len, ReadingConfig};
+use imgproc::reading::{bytes_len, reading, u64s_len, ReadingConfig};
 use imgproc::{grid, illumination, sauvola, Geometry, LumaError, Refusal, SettingError};
 use std::error::Error;
 
@@ -58,8 +58,8 @@ fn method(k: f64, dynamic_range: f64) -> TileThresholdMethod {
 /// Reads a small picture with these settings and long workspaces.
 fn answer(config: &ReadingConfig) -> Result<(), Refusal> {
     let geometry = Geometry::packed(5, 4);
-    let (mut dst, mut bytes, mut words) = ([0; 20], [0; 400], [0; 400]);
-    reading(&[7; 20], geometry, &mut dst, geometry, config, &mut bytes, &mut words).map(|_| ())
+    let (mut dst, mut bytes, mut u64s) = ([0; 20], [0; 400], [0; 400]);
+    reading(&[7; 20], geometry, &mut dst, geometry, config, &mut bytes, &mut u64s).map(|_| ())
 }
 
 #[test]
@@ -110,7 +110,7 @@ fn lengths_never_wrap() {
         for side in [usize::MAX / 9 + 1, usize::MAX / 2 + 1, usize::MAX] {
             for other in [1 << 16, usize::MAX] {
                 assert_eq!(bytes_len(side, other, &config.grid), usize::MAX);
-                assert_eq!(words_len(other, side, &config.grid), usize::MAX);
+                assert_eq!(u64s_len(other, side, &config.grid), usize::MAX);
                 assert_eq!(illumination::workspace_len(side, other), usize::MAX);
                 assert_eq!(sauvola::workspace_len(side, other), usize::MAX);
             }

@@ -1,6 +1,6 @@
 //! Tests the workspace that owns its slices: it refuses before it allocates, and reads as lent workspaces do.
 
-use imgproc::reading::{bytes_len, reading, words_len, ReadingConfig, ReadingWorkspace};
+use imgproc::reading::{bytes_len, reading, u64s_len, ReadingConfig, ReadingWorkspace};
 use imgproc::{Geometry, LumaError, Refusal, SettingError, MAX_SIDE};
 
 fn made(width: usize, height: usize, stride: usize) -> Result<(), Refusal> {
@@ -36,8 +36,8 @@ fn it_reads_as_lent_workspaces_do() {
     let config = ReadingConfig::default();
     let (mut lent, mut owned) = (vec![1; 41 * 33], vec![1; 41 * 33]);
     let mut bytes = vec![0; bytes_len(40, 33, &config.grid)];
-    let mut words = vec![0; words_len(40, 33, &config.grid)];
-    let counts = reading(&picture, source, &mut lent, target, &config, &mut bytes, &mut words).unwrap();
+    let mut u64s = vec![0; u64s_len(40, 33, &config.grid)];
+    let counts = reading(&picture, source, &mut lent, target, &config, &mut bytes, &mut u64s).unwrap();
     let mut workspace = ReadingWorkspace::new(Geometry::packed(40, 33), &config).unwrap();
     // Reads twice: what the first reading leaves in the workspaces does not matter.
     for _ in 0..2 {

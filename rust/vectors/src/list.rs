@@ -13,7 +13,7 @@ pub const FROM: usize = 0;
 pub const TO: usize = 1;
 pub const OTHER: usize = 2;
 pub const BYTES: usize = 3;
-pub const WORDS: usize = 4;
+pub const U64S: usize = 4;
 
 /// The longest slice whose bytes after a call are listed.
 const LISTED: usize = 256;

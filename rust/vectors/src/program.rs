@@ -11,17 +11,17 @@ use crate::picture::{noise, Destination, Picture};
 struct Lent {
     destination: usize,
     bytes: usize,
-    words: usize,
+    u64s: usize,
     out: usize,
 }
 
 /// The lengths that the program lends: enough for 60 by 60 pixels, and 128 bytes for the line.
-const PROGRAM: Lent = Lent { destination: 3600, bytes: 32_432, words: 7522, out: 128 };
+const PROGRAM: Lent = Lent { destination: 3600, bytes: 32_432, u64s: 7522, out: 128 };
 
 /// Writes a case. A picture is marked in the destination; if the input is none, the destination and the workspaces stay
 /// as they were.
 fn case(l: &mut List, input: &[u8], lent: Lent, line: &str, marked: Option<&[u8]>) {
-    let lengths = [input.len(), lent.destination, lent.out, lent.bytes, lent.words].map(|length| length as u64);
+    let lengths = [input.len(), lent.destination, lent.out, lent.bytes, lent.u64s].map(|length| length as u64);
     let numbers = vec![asked::PROGRAM, u64::from(marked.is_none())];
     l.printed(&Line { numbers, lengths, from: input.to_vec(), before: vec![] }, line, marked);
 }
@@ -132,15 +132,15 @@ fn malformed(l: &mut List) {
 /// Writes cases with exact slices and with one that is short, for document 01's row in one tile.
 fn short(l: &mut List) {
     let input = form(2, 1, &[0, 200]);
-    let (bytes, words) = room(2, 1, &Settings::default().grid);
-    let exact = Lent { destination: 2, bytes, words, out: 128 };
+    let (bytes, u64s) = room(2, 1, &Settings::default().grid);
+    let exact = Lent { destination: 2, bytes, u64s, out: 128 };
     let (answer, marked) = line(2, 1, &[0, 200]);
-    l.comment("every slice exact, then the destination, the bytes and the words one short");
+    l.comment("every slice exact, then the destination, the bytes and the u64s one short");
     case(l, &input, exact, &answer, Some(&marked));
     refused(l, &input, Lent { destination: 1, ..exact }, 3);
     refused(l, &input, Lent { bytes: bytes - 1, ..exact }, 8);
-    refused(l, &input, Lent { words: words - 1, ..exact }, 8);
-    refused(l, &input, Lent { destination: 0, bytes: 0, words: 0, ..exact }, 3);
+    refused(l, &input, Lent { u64s: u64s - 1, ..exact }, 8);
+    refused(l, &input, Lent { destination: 0, bytes: 0, u64s: 0, ..exact }, 3);
     l.comment("less than 128 bytes for the line: none is written; the picture is read all the same");
     for out in [0, 13, 127] {
         case(l, &input, Lent { out, ..exact }, "", Some(&marked));
@@ -155,7 +155,7 @@ pub fn list() -> List {
         "answers",
         &[
             "Inputs of the program reading, call 20: left, which is 1 where the destination and the workspaces stay as",
-            "they were, and is the number, too. The slices are the input, the destination, the line, bytes and words.",
+            "they were, and is the number, too. The slices are the input, the destination, the line, bytes and u64s.",
             "The value is the line's length, and the line begins the third slice afterwards.",
             "The counts are those of the published Rust, aukilabs/qr-lab at c99d6ca466, whose calls are made one after",
             "the other (rust/vectors/src/chain.rs) with document 01's settings; which inputs are refused, and the",

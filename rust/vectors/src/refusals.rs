@@ -6,7 +6,7 @@ use crate::conditions::{
     bad, combined, layout, lent, limits, numbered, pictured, pictures, short, Condition, DESTINATION, SOURCE,
 };
 use crate::grids::{QUERY, TILES};
-use crate::list::{Line, List, BYTES, FROM, OTHER, TO, WORDS};
+use crate::list::{Line, List, BYTES, FROM, OTHER, TO, U64S};
 use crate::readings::{kernels, READINGS, WINDOW};
 use crate::stored::room;
 
@@ -18,15 +18,15 @@ const EVEN_OR_SMALL: [u64; 6] = [0, 1, 2, 4, 4096, u64::MAX - 1];
 
 /// Makes a call on pictures of 4 by 3 with two strides, each slice as short as it may be.
 fn operator(which: u64, settings: &[u64]) -> Line {
-    let (bytes, words) = room(which, 4, 3, settings);
+    let (bytes, u64s) = room(which, 4, 3, settings);
     let numbers = [&[which, 4, 3, 5, 4, 3, 6], settings].concat();
-    Line { numbers, lengths: [14, 16, 0, bytes, words], ..Line::default() }
+    Line { numbers, lengths: [14, 16, 0, bytes, u64s], ..Line::default() }
 }
 
 /// Makes a call on two packed pictures of one size.
 fn packed(which: u64, width: u64, height: u64, settings: &[u64]) -> Line {
-    let (bytes, words) = room(which, width, height, settings);
-    let line = Line { lengths: [0, 0, 0, bytes, words], ..operator(which, settings) };
+    let (bytes, u64s) = room(which, width, height, settings);
+    let line = Line { lengths: [0, 0, 0, bytes, u64s], ..operator(which, settings) };
     let picture = [width * height, width, height, width];
     pictured(&pictured(&line, SOURCE, picture), DESTINATION, picture)
 }
@@ -120,7 +120,7 @@ pub fn sauvola() -> List {
     let settings =
         vec![bad(7, "the radius", SETTINGS, 0), bad(7, "k", SETTINGS + 1, 1001), bad(7, "the range", SETTINGS + 2, 0)];
     let large = u64::from(u32::MAX);
-    all(&mut l, &operator(SAUVOLA, &[8, 200, 128, 0, 255]), settings, WORDS, |l, good| {
+    all(&mut l, &operator(SAUVOLA, &[8, 200, 128, 0, 255]), settings, U64S, |l, good| {
         limits(l, good, SETTINGS, &[1, 4096, 65_536, u64::MAX], &[0], 7);
         limits(l, good, SETTINGS + 1, &[0, 1, 999, 1000], &[1001, large], 7);
         limits(l, good, SETTINGS + 2, &[1, large], &[0], 7);
@@ -154,7 +154,7 @@ fn floats(l: &mut List, good: &Line) {
 
 pub fn grid() -> List {
     let numbers = "1 to 4 the layout; 7 a zero tile side, or of Sauvola k or range not finite or range not above 0;";
-    let rooms = "8 a workspace under 5t words; 10 a buffer under t bytes, t the number of tiles; 0 accepted.";
+    let rooms = "8 a workspace under 5t u64s; 10 a buffer under t bytes, t the number of tiles; 0 accepted.";
     let head = "Refusals of the grid's build, call 15: width height stride of the source,";
     let mut l = refusals("grid_refusals", &[head, TILES, numbers, rooms]);
     let numbers = vec![BUILD, 4, 3, 5, 2, 2, 1, 12, 1, 0.2f64.to_bits(), 128f64.to_bits(), 0];
@@ -163,7 +163,7 @@ pub fn grid() -> List {
     conditions.extend([bad(7, "the tile width", 4, 0), bad(7, "the tile height", 5, 0)]);
     conditions.extend([bad(7, "k", K, f64::INFINITY.to_bits()), bad(7, "the range", RANGE, 0)]);
     conditions.extend([
-        short(8, "the workspace", WORDS),
+        short(8, "the workspace", U64S),
         short(10, "the thresholds", TO),
         short(10, "the skips", OTHER),
     ]);
@@ -192,13 +192,13 @@ pub fn grid() -> List {
             let mut exact = numbered(&numbered(&numbered(&sized, 4, tile_width), 5, tile_height), METHOD, method);
             exact.lengths[1..].copy_from_slice(&[tiles, tiles, 0, 5 * tiles]);
             l.answered(&exact, 0);
-            l.refused(&lent(&exact, WORDS, 5 * tiles - 1), 8);
+            l.refused(&lent(&exact, U64S, 5 * tiles - 1), 8);
             l.refused(&lent(&exact, TO, tiles - 1), 10);
             l.refused(&lent(&exact, OTHER, tiles - 1), 10);
             let none = lent(&lent(&exact, TO, 0), OTHER, 0);
-            l.refused(&lent(&none, WORDS, 0), 8);
+            l.refused(&lent(&none, U64S, 0), 8);
             l.refused(&none, 10);
-            l.answered(&lent(&lent(&lent(&exact, WORDS, 5 * tiles + 3), TO, tiles + 2), OTHER, tiles + 1), 0);
+            l.answered(&lent(&lent(&lent(&exact, U64S, 5 * tiles + 3), TO, tiles + 2), OTHER, tiles + 1), 0);
         }
     }
     l
@@ -206,7 +206,7 @@ pub fn grid() -> List {
 
 pub fn reading() -> List {
     let numbers = "7 the division's settings; 6 the opening's kernel; 7 the grid's, then Sauvola's settings;";
-    let rooms = "8 bytes under 9wh + 2t or words under 2(w + 1)(h + 1) + 5t, t the number of tiles; 0 accepted.";
+    let rooms = "8 bytes under 9wh + 2t or u64s under 2(w + 1)(h + 1) + 5t, t the number of tiles; 0 accepted.";
     let head = ["Refusals of the reading, call 19:", READINGS].join(" ");
     let mut l = refusals("reading_refusals", &[&head, TILES, WINDOW, LAYOUTS, numbers, rooms]);
     let mut settings = kernels(5, 3);
@@ -217,7 +217,7 @@ pub fn reading() -> List {
     conditions.extend([bad(7, "the tile width", 11, 0), bad(7, "the tile height", 12, 0)]);
     conditions.extend([bad(7, "the grid's k", 16, f64::NAN.to_bits()), bad(7, "the grid's range", 17, 0)]);
     conditions.extend([bad(7, "the radius", 19, 0), bad(7, "k", 20, 1001), bad(7, "the range", 21, 0)]);
-    conditions.extend([short(8, "the bytes", BYTES), short(8, "the words", WORDS)]);
+    conditions.extend([short(8, "the bytes", BYTES), short(8, "the u64s", U64S)]);
     combined(&mut l, &good, &conditions, |l, line, number| l.answered(line, number));
     l.comment("the two kernels: odd and at least 3");
     limits(&mut l, &good, 7, &ODD, &EVEN_OR_SMALL, 7);
@@ -237,13 +237,13 @@ pub fn reading() -> List {
     for (width, height, tile_width, tile_height) in shapes.into_iter().chain([(4096, 1, 16, 16), (1, 4096, 16, 16)]) {
         (settings[4], settings[5], settings[8]) = (tile_width, tile_height, 0);
         let exact = packed(READING, width, height, &settings);
-        let [bytes, words] = [exact.lengths[BYTES], exact.lengths[WORDS]];
+        let [bytes, u64s] = [exact.lengths[BYTES], exact.lengths[U64S]];
         l.answered(&exact, 0);
         l.refused(&lent(&exact, BYTES, bytes - 1), 8);
-        l.refused(&lent(&exact, WORDS, words - 1), 8);
+        l.refused(&lent(&exact, U64S, u64s - 1), 8);
         l.refused(&lent(&exact, BYTES, 0), 8);
-        l.refused(&lent(&exact, WORDS, 0), 8);
-        l.answered(&lent(&lent(&exact, BYTES, bytes + 3), WORDS, words + 5), 0);
+        l.refused(&lent(&exact, U64S, 0), 8);
+        l.answered(&lent(&lent(&exact, BYTES, bytes + 3), U64S, u64s + 5), 0);
     }
     l
 }

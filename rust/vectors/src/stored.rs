@@ -25,11 +25,11 @@ pub fn room(which: u64, width: u64, height: u64, settings: &[u64]) -> (u64, u64)
 /// Writes a call from a picture to a destination of its size, with a stride and a tail.
 pub fn asked(l: &mut List, which: u64, picture: &Picture, stride: usize, tail: usize, settings: &[u64]) -> Answer {
     let [width, height, from] = [picture.width, picture.height, picture.stride].map(|side| side as u64);
-    let (bytes, words) = room(which, width, height, settings);
+    let (bytes, u64s) = room(which, width, height, settings);
     let to = stride * (picture.height - 1) + picture.width + tail;
     l.accepted(&Line {
         numbers: [&[which, width, height, from, width, height, stride as u64], settings].concat(),
-        lengths: [picture.bytes.len() as u64, to as u64, 0, bytes, words],
+        lengths: [picture.bytes.len() as u64, to as u64, 0, bytes, u64s],
         from: picture.bytes.clone(),
         before: vec![],
     })

@@ -30,7 +30,7 @@ returns c =
     let parsed = told .before .before in
     let a = parsed .before .before .before .before .before .before .args in
     answers-other (now (a .input)) (parsed-as (now (a .input)) (told .enum-told .given .1) (parsed .parse .ensures))
-    (record { writes = call .refused-line .ensures; dst-left = refl; bytes-left = refl; words-left = refl })
+    (record { writes = call .refused-line .ensures; dst-left = refl; bytes-left = refl; u64s-left = refl })
 
 sub-answer-picture : tie.Need-sub-answer-picture
 sub-answer-picture c =

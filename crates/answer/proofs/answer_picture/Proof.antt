@@ -20,7 +20,7 @@ answered w h pixels {lent} {left} {n} {read = read} e r x =
     let q = subst (λ (s : ReadingConfig). Reads (lentTo w h pixels lent s) read (leftBy left)) e r in
     record {
       writes = subst (λ (a : Answer ReadingNumbers). Writes (answerOf w h a) (lent .out) n (left .out)) (q .answers) x;
-      reads = record { answers = refl; leaves = q .leaves; bytes-left = q .bytes-left; words-left = q .words-left };
+      reads = record { answers = refl; leaves = q .leaves; bytes-left = q .bytes-left; u64s-left = q .u64s-left };
     }
 
 settings-requires : tie.Need-settings-requires

@@ -86,7 +86,7 @@ module _ {lent : ReadingLent} (ready : ReadReady lent) {tally : Tally} (fresh : 
   marksPlace = marksAt (g .width) (g .height)
 
   module _ {raised : Tally} {bytes₁ : List ℕ} (o : Opened tally (lent .src) g s (lent .bytes) raised bytes₁) where
-    pub mark-stage : MarkReady (packedAs g) s marksPlace bytes₁ (lent .words)
+    pub mark-stage : MarkReady (packedAs g) s marksPlace bytes₁ (lent .u64s)
     mark-stage = record {
       layout = packed-kept (ready .pair .from);
       tight = refl;
@@ -94,11 +94,11 @@ module _ {lent : ReadingLent} (ready : ReadReady lent) {tally : Tally} (fresh : 
       tile-height = ready .settings .tile-height;
       behind = omega arith;
       bytes-fit = omega (arith, o .long, ready .bytes-fit);
-      words-fit = omega (arith, ready .words-fit);
+      u64s-fit = omega (arith, ready .u64s-fit);
     }
 
-    module _ {bytes₂ words₂ : List ℕ} (m : Marks (packedAs g) s marksPlace bytes₁ (lent .words) bytes₂ words₂) where
-      pub judge-stage : JudgeRoom (packedAs g) s marksPlace bytes₂ words₂
+    module _ {bytes₂ u64s₂ : List ℕ} (m : Marks (packedAs g) s marksPlace bytes₁ (lent .u64s) bytes₂ u64s₂) where
+      pub judge-stage : JudgeRoom (packedAs g) s marksPlace bytes₂ u64s₂
       judge-stage = record {
         marks = record {
           layout = packed-kept (ready .pair .from);
@@ -107,10 +107,10 @@ module _ {lent : ReadingLent} (ready : ReadReady lent) {tally : Tally} (fresh : 
           tile-height = ready .settings .tile-height;
           behind = omega arith;
           bytes-fit = omega (arith, m .bytes-long, o .long, ready .bytes-fit);
-          words-fit = omega (arith, m .words-long, ready .words-fit);
+          u64s-fit = omega (arith, m .u64s-long, ready .u64s-fit);
         };
         skips = m .skips ∙ ap (skips (s .grid) (g .width) (g .height)) (sym (m .opened));
-        tables-fit = omega (arith, m .words-long, ready .words-fit);
+        tables-fit = omega (arith, m .u64s-long, ready .u64s-fit);
         settings = ready .settings .sauvola;
       }
 
@@ -138,10 +138,10 @@ module _ {lent : ReadingLent} (ready : ReadReady lent) {tally : Tally} (fresh : 
           let opening = sweep-walks (s .«opening_kernel») (ready .settings .kernel) (g .width) (g .height) in
           stands-as (raised-fresh fresh (o .counted)) (omega arith)
 
-      pub read-done : {j : Judged} {dst words₃ : List ℕ}
+      pub read-done : {j : Judged} {dst u64s₃ : List ℕ}
           → PictureJudged s (packedAs g) (part 0 (g .width * g .height) bytes₂) (lent .dst) (lent .target) j dst
-          → length words₃ ≡ length words₂
-          → ReadDone lent (counts-of (j .dark) (j .light) (j .skipped) raised) (record { dst = dst; bytes = bytes₂; words = words₃ })
+          → length u64s₃ ≡ length u64s₂
+          → ReadDone lent (counts-of (j .dark) (j .light) (j .skipped) raised) (record { dst = dst; bytes = bytes₂; u64s = u64s₃ })
       unfolding source readingOf
       read-done {j} p l = record {
         counted =
@@ -149,5 +149,5 @@ module _ {lent : ReadingLent} (ready : ReadReady lent) {tally : Tally} (fresh : 
             ∙ ap₂ (numbers _ _) (p .skipped ∙ count-is isSkipped) (comparisons-are .at);
         leaves = p .leaves ∙ ap (paintedOn (lent .dst) (lent .target)) marked-is;
         bytes-long = m .bytes-long ∙ o .long;
-        words-long = l ∙ m .words-long;
+        u64s-long = l ∙ m .u64s-long;
       }

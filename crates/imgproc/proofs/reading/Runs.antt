@@ -72,7 +72,7 @@ module _ {tally : Tally} {src : List ℕ} {g : Geometry} {s : ReadingConfig} {ws
     }
 
 -- ---- the tiles' marks
-module _ {g : Geometry} {s : ReadingConfig} {at : ℕ} {bytes words : List ℕ} (ready : MarkReady g s at bytes words) where
+module _ {g : Geometry} {s : ReadingConfig} {at : ℕ} {bytes u64s : List ℕ} (ready : MarkReady g s at bytes u64s) where
   pub prefix-long : length (take (g .width * g .height) bytes) ≡ g .width * g .height
   prefix-long = length-take-le (g .width * g .height) bytes (omega (arith, ready .behind, ready .bytes-fit))
 
@@ -89,7 +89,7 @@ module _ {g : Geometry} {s : ReadingConfig} {at : ℕ} {bytes words : List ℕ} 
     tile-height = ready .tile-height;
   }
 
-  module _ {words′ : List ℕ} (gathered : Gathers (take (g .width * g .height) bytes) g (s .grid) 0 words words′) where
+  module _ {u64s′ : List ℕ} (gathered : Gathers (take (g .width * g .height) bytes) g (s .grid) 0 u64s u64s′) where
     new : List ℕ
     new = skips (s .grid) (g .width) (g .height) (part 0 (g .width * g .height) bytes)
 
@@ -101,16 +101,16 @@ module _ {g : Geometry} {s : ReadingConfig} {at : ℕ} {bytes words : List ℕ} 
         (λ i. bit (skipOf (s .grid) (g .width) (g .height) (part 0 (g .width * g .height) bytes) (i % across) (i / across)))
         (across * tilesY (s .grid) (g .height))
 
-    is-new : eachTile (byteBy Skip (s .grid)) (s .grid) (g .width) (g .height) 0 words′ ≡ new
+    is-new : eachTile (byteBy Skip (s .grid)) (s .grid) (g .width) (g .height) 0 u64s′ ≡ new
     unfolding new
     is-new =
-        skips-are (take (g .width * g .height) bytes) (g .stride) (s .grid) (g .width) (g .height) 0 words′ sized (gathered .gathered)
+        skips-are (take (g .width * g .height) bytes) (g .stride) (s .grid) (g .width) (g .height) 0 u64s′ sized (gathered .gathered)
         ∙ ap (skips (s .grid) (g .width) (g .height))
         (picture-again (take (g .width * g .height) bytes) g (ready .layout .wide) (ready .tight) prefix-long)
 
     pub marked : {bytes′ : List ℕ}
-        → bytes′ ≡ overwritten at (eachTile (byteBy Skip (s .grid)) (s .grid) (g .width) (g .height) 0 words′) bytes
-        → Marks g s at bytes words bytes′ words′
+        → bytes′ ≡ overwritten at (eachTile (byteBy Skip (s .grid)) (s .grid) (g .width) (g .height) 0 u64s′) bytes
+        → Marks g s at bytes u64s bytes′ u64s′
     unfolding new
     marked {bytes′} is =
         let m = g .width * g .height in
@@ -121,15 +121,15 @@ module _ {g : Geometry} {s : ReadingConfig} {at : ℕ} {bytes words : List ℕ} 
           opened = ap (part 0 m) e ∙ part-before at new bytes fits 0 m (omega (arith, ready .behind));
           skips = ap₂ (λ (c : ℕ) (d : List ℕ). part at c d) (sym new-long) e ∙ part-overwritten at new bytes fits;
           bytes-long = ap length e ∙ long;
-          words-long = gathered .long;
+          u64s-long = gathered .long;
         }
 
 -- ---- the judgements
-module _ {g : Geometry} {s : ReadingConfig} {at : ℕ} {bytes words : List ℕ} (room : JudgeRoom g s at bytes words) where
-  pub judge-ready : {words′ : List ℕ} (c : ℕ)
+module _ {g : Geometry} {s : ReadingConfig} {at : ℕ} {bytes u64s : List ℕ} (room : JudgeRoom g s at bytes u64s) where
+  pub judge-ready : {u64s′ : List ℕ} (c : ℕ)
       → c ≡ tilesX (s .grid) (g .width) * tilesY (s .grid) (g .height)
-      → Tables (take (g .width * g .height) bytes) g 0 words′
-      → JudgeReady (take (g .width * g .height) bytes) g (take (at + c - at) (drop at bytes)) words′ 0 s
+      → Tables (take (g .width * g .height) bytes) g 0 u64s′
+      → JudgeReady (take (g .width * g .height) bytes) g (take (at + c - at) (drop at bytes)) u64s′ 0 s
   judge-ready c e tables = record {
     tables = record { layout = prefix-kept (room .marks); tables = tables; settings = room .settings };
     tight = room .marks .tight;

@@ -20,7 +20,7 @@ use Rattle.imgproc.specs.Reading.{
   readingSettings,
   marksAt,
   readingBytes,
-  readingWords,
+  readingU64s,
   readingRoom,
   ReadingLent,
   ReadingLeft,
@@ -55,45 +55,45 @@ says s p =
     }
 
 -- ---- the workspaces
-module _ (g : Geometry) (s : ReadingConfig) (bytes words t : ℕ) (is : t ≡ tileCount (s .grid) (g .width) (g .height)) where
-  pub bytes-short : bytes < marksAt (g .width) (g .height) + 2 * t → Refused WorkspaceTooSmall ≡ first (readingRoom g s bytes words)
+module _ (g : Geometry) (s : ReadingConfig) (bytes u64s t : ℕ) (is : t ≡ tileCount (s .grid) (g .width) (g .height)) where
+  pub bytes-short : bytes < marksAt (g .width) (g .height) + 2 * t → Refused WorkspaceTooSmall ≡ first (readingRoom g s bytes u64s)
   unfolding first
   bytes-short l = simp (lt-ltb bytes (readingBytes (s .grid) (g .width) (g .height)) (rw is at l))
 
   module _ (b : marksAt (g .width) (g .height) + 2 * t ≤ bytes) where
-    pub words-short : words < 2 * ((g .width + 1) * (g .height + 1)) + 5 * t → Refused WorkspaceTooSmall ≡ first (readingRoom g s bytes words)
+    pub u64s-short : u64s < 2 * ((g .width + 1) * (g .height + 1)) + 5 * t → Refused WorkspaceTooSmall ≡ first (readingRoom g s bytes u64s)
     unfolding first
-    words-short l =
+    u64s-short l =
         simp (
           le-ltb bytes (readingBytes (s .grid) (g .width) (g .height)) (rw is at b),
-          lt-ltb words (readingWords (s .grid) (g .width) (g .height)) (rw is at l),
+          lt-ltb u64s (readingU64s (s .grid) (g .width) (g .height)) (rw is at l),
         )
 
-    pub room-enough : 2 * ((g .width + 1) * (g .height + 1)) + 5 * t ≤ words → Accepted ≡ first (readingRoom g s bytes words)
+    pub room-enough : 2 * ((g .width + 1) * (g .height + 1)) + 5 * t ≤ u64s → Accepted ≡ first (readingRoom g s bytes u64s)
     unfolding first
     room-enough l =
         simp (
           le-ltb bytes (readingBytes (s .grid) (g .width) (g .height)) (rw is at b),
-          le-ltb words (readingWords (s .grid) (g .width) (g .height)) (rw is at l),
+          le-ltb u64s (readingU64s (s .grid) (g .width) (g .height)) (rw is at l),
         )
 
 pub room-says :
-    (g : Geometry) (s : ReadingConfig) (bytes words : ℕ)
-    → first (readingRoom g s bytes words) ≡ Accepted
-    → (readingBytes (s .grid) (g .width) (g .height) ≤ bytes) × (readingWords (s .grid) (g .width) (g .height) ≤ words)
-room-says g s bytes words p =
+    (g : Geometry) (s : ReadingConfig) (bytes u64s : ℕ)
+    → first (readingRoom g s bytes u64s) ≡ Accepted
+    → (readingBytes (s .grid) (g .width) (g .height) ≤ bytes) × (readingU64s (s .grid) (g .width) (g .height) ≤ u64s)
+room-says g s bytes u64s p =
     let a = ltb bytes (readingBytes (s .grid) (g .width) (g .height)) in
-    let b = ltb words (readingWords (s .grid) (g .width) (g .height)) in
+    let b = ltb u64s (readingU64s (s .grid) (g .width) (g .height)) in
     let n = neither a b (not-refused (a || b) WorkspaceTooSmall p) in (
       ltb-false bytes (readingBytes (s .grid) (g .width) (g .height)) (n .0),
-      ltb-false words (readingWords (s .grid) (g .width) (g .height)) (n .1),
+      ltb-false u64s (readingU64s (s .grid) (g .width) (g .height)) (n .1),
     )
 
 -- ---- the contract
 
 -- what is checked after the pair, of the source's layout
 abbrev rest : ReadingLent → Geometry → Conditions
-rest lent g = readingSettings (lent .settings) then readingRoom g (lent .settings) (length (lent .bytes)) (length (lent .words))
+rest lent g = readingSettings (lent .settings) then readingRoom g (lent .settings) (length (lent .bytes)) (length (lent .u64s))
 
 -- what was lent, by the layouts that were opened
 abbrev openedAs : ReadingLent → Geometry → Geometry → ReadingLent
@@ -104,26 +104,26 @@ openedAs lent g h = record {
   target = h;
   settings = lent .settings;
   bytes = lent .bytes;
-  words = lent .words;
+  u64s = lent .u64s;
 }
 
 module _ {lent : ReadingLent} where
   -- of a refused call
   pub refused-call : (e : ImgProcError) → Comes (length (lent .src)) (lent .source) (length (lent .dst)) (lent .target) (rest lent) (Refused e)
-      → Reads lent (refused (errorNumber e)) (record { dst = lent .dst; bytes = lent .bytes; words = lent .words })
-  refused-call e c = record { answers = rw (c .is); leaves = rw (c .is); bytes-left = rw (c .is) refl; words-left = rw (c .is) refl }
+      → Reads lent (refused (errorNumber e)) (record { dst = lent .dst; bytes = lent .bytes; u64s = lent .u64s })
+  refused-call e c = record { answers = rw (c .is); leaves = rw (c .is); bytes-left = rw (c .is) refl; u64s-left = rw (c .is) refl }
 
   -- of an accepted one
   pub done :
       {g h : Geometry} {r : ReadingCounts} {left : ReadingLeft}
       → Pair (length (lent .src)) (lent .source) (length (lent .dst)) (lent .target) g h
       → first (readingSettings (lent .settings)) ≡ Accepted
-      → first (readingRoom g (lent .settings) (length (lent .bytes)) (length (lent .words))) ≡ Accepted
+      → first (readingRoom g (lent .settings) (length (lent .bytes)) (length (lent .u64s))) ≡ Accepted
       → ReadDone (openedAs lent g h) r left
       → Reads lent (accepted (numbersOf r)) left
   done {g = g} {h = h} {r = r} {left = left} p settings room d =
-      let checks = readingRoom g (lent .settings) (length (lent .bytes)) (length (lent .words)) in
+      let checks = readingRoom g (lent .settings) (length (lent .bytes)) (length (lent .u64s)) in
       let c = past p {rest = rest lent} (then-accepted (readingSettings (lent .settings)) checks settings ∙ room) .is in
       let same : openedAs lent g h ≡ lent = ap₂ (openedAs lent) (sym (source-same p)) (sym (target-same p)) in
       let d′ = subst (λ (l : ReadingLent). ReadDone l r left) same d in
-      record { answers = rw c (ap accepted (d′ .counted)); leaves = rw c (d′ .leaves); bytes-left = rw c (d′ .bytes-long); words-left = rw c (d′ .words-long) }
+      record { answers = rw c (ap accepted (d′ .counted)); leaves = rw c (d′ .leaves); bytes-left = rw c (d′ .bytes-long); u64s-left = rw c (d′ .u64s-long) }

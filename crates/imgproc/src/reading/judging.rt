@@ -153,11 +153,11 @@ pub(crate) fn judge_picture(
     config: ReadingConfig,
     bytes: &[u8],
     marks: usize,
-    words: &mut [u64],
+    u64s: &mut [u64],
     dst: &mut [u8],
     dst_geometry: Geometry,
 ) -> Judged
-    requires { ⌜ JudgeRoom packed config marks (now bytes) (now words) ⌝ }
+    requires { ⌜ JudgeRoom packed config marks (now bytes) (now u64s) ⌝ }
     requires { ⌜
         Kept (length (now dst)) «dst_geometry»
         × ((«dst_geometry» .width ≡ packed .width) × («dst_geometry» .height ≡ packed .height))
@@ -176,12 +176,12 @@ pub(crate) fn judge_picture(
     let count = tiles_along(packed.width, grid.tile_width)
         * tiles_along(packed.height, grid.tile_height);
     let end = marks + count;
-    build_tables(&bytes[..plane], packed, words, 0);
+    build_tables(&bytes[..plane], packed, u64s, 0);
     judge_rows(
         &bytes[..plane],
         packed,
         &bytes[marks..end],
-        words,
+        u64s,
         0,
         config,
         dst,

@@ -118,7 +118,7 @@ impl Case for Build {
         Outcome {
             number,
             outs: named(tiles_x, tiles_y),
-            lent: vec![Buffer::Bytes(src), Buffer::Bytes(thresholds), Buffer::Bytes(skips), Buffer::Words(workspace)],
+            lent: vec![Buffer::Bytes(src), Buffer::Bytes(thresholds), Buffer::Bytes(skips), Buffer::U64s(workspace)],
         }
     }
 

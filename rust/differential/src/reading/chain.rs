@@ -30,7 +30,7 @@ pub struct Reading {
     pub dynamic_range: f64,
     /// The lengths of the two workspaces.
     pub bytes: usize,
-    pub words: usize,
+    pub u64s: usize,
     pub seed: u64,
 }
 
@@ -73,9 +73,9 @@ impl Reading {
             TileThresholdMethod::Midrange => (0, f64::NAN, f64::NAN),
             TileThresholdMethod::Sauvola { k, dynamic_range } => (1, k, dynamic_range),
         };
-        let (bytes, words) = room(src.1.width, src.1.height, &config.grid);
+        let (bytes, u64s) = room(src.1.width, src.1.height, &config.grid);
         let ((src, s), (dst, d)) = (src, dst);
-        Self { src, s, dst, d, config, method, k, dynamic_range, bytes, words, seed }
+        Self { src, s, dst, d, config, method, k, dynamic_range, bytes, u64s, seed }
     }
 
     fn division(&self) -> BackgroundDivideConfig {
@@ -142,8 +142,8 @@ impl Reading {
         let sauvola = self.sauvola();
         sauvola_into(opened, rust::view_mut(&mut darkness, g)?, &sauvola, &mut ThresholdWorkspace::default())
             .map_err(rust::imgproc)?;
-        let (bytes, words) = room(g.width, g.height, &self.config.grid);
-        if self.bytes < bytes || self.words < words {
+        let (bytes, u64s) = room(g.width, g.height, &self.config.grid);
+        if self.bytes < bytes || self.u64s < u64s {
             return Err(document::WORKSPACE_TOO_SMALL);
         }
         let mut chained = Chained { dark: 0, light: 0, skipped: 0, marked: Vec::with_capacity(g.area()) };
@@ -196,7 +196,7 @@ impl Case for Reading {
         let src = Guarded::new(&self.src);
         let mut dst = Guarded::new(&self.dst);
         let mut bytes = Guarded::new(&u8::noise(self.bytes, a));
-        let mut words = Guarded::new(&u64::noise(self.words, b));
+        let mut u64s = Guarded::new(&u64::noise(self.u64s, b));
         let mut counts = ReadingCounts { dark, light, skipped, comparisons };
         let number = flat::reading(
             &src,
@@ -208,13 +208,13 @@ impl Case for Reading {
             self.k,
             self.dynamic_range,
             &mut bytes,
-            &mut words,
+            &mut u64s,
             &mut counts,
         );
         Outcome {
             number,
             outs: named(counts),
-            lent: vec![Buffer::Bytes(src), Buffer::Bytes(dst), Buffer::Bytes(bytes), Buffer::Words(words)],
+            lent: vec![Buffer::Bytes(src), Buffer::Bytes(dst), Buffer::Bytes(bytes), Buffer::U64s(u64s)],
         }
     }
 
@@ -247,8 +247,8 @@ impl Case for Reading {
         };
         let config = ReadingConfig { grid: TileThresholdConfig { method, ..self.config.grid }, ..self.config };
         let mut dst = self.dst.clone();
-        let (mut bytes, mut words) = (vec![0; self.bytes], vec![0; self.words]);
-        let answer = ours::reading(&self.src, self.s, &mut dst, self.d, &config, &mut bytes, &mut words).map(named);
+        let (mut bytes, mut u64s) = (vec![0; self.bytes], vec![0; self.u64s]);
+        let answer = ours::reading(&self.src, self.s, &mut dst, self.d, &config, &mut bytes, &mut u64s).map(named);
         let want = match Refusal::from_number(expected.number) {
             None => Ok(expected.outs.clone()),
             Some(refusal) => Err(refusal),
@@ -259,7 +259,7 @@ impl Case for Reading {
         }
         let grid = &self.config.grid;
         let told =
-            (ours::bytes_len(self.s.width, self.s.height, grid), ours::words_len(self.s.width, self.s.height, grid));
+            (ours::bytes_len(self.s.width, self.s.height, grid), ours::u64s_len(self.s.width, self.s.height, grid));
         if answer.is_ok() && told != room(self.s.width, self.s.height, grid) {
             return Err(format!("the workspaces are told as {told:?}"));
         }
@@ -298,7 +298,7 @@ impl Case for Reading {
 
     fn tell(&self) -> String {
         format!(
-            "{:?}, method {}, k {:?}, range {:?}\nsource {:?}, {}\ndestination {:?}, {}\nbytes {}, words {}, seed {}",
+            "{:?}, method {}, k {:?}, range {:?}\nsource {:?}, {}\ndestination {:?}, {}\nbytes {}, u64s {}, seed {}",
             self.config,
             self.method,
             self.k,
@@ -308,7 +308,7 @@ impl Case for Reading {
             self.d,
             listed(&self.dst),
             self.bytes,
-            self.words,
+            self.u64s,
             self.seed
         )
     }

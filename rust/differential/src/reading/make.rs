@@ -85,9 +85,9 @@ pub fn random(run: &mut Run, rng: &mut Rng) -> Checked {
     let mut case = Reading::exact(config, src, dst, rng.next());
     if rng.one_in(3) {
         case.bytes += rng.below(40);
-        case.words += rng.below(40);
+        case.u64s += rng.below(40);
     }
-    let (bytes, words) = room(width, height, &config.grid);
+    let (bytes, u64s) = room(width, height, &config.grid);
     match rng.below(24) {
         0 => spoil(rng, &mut case.src, &mut case.s),
         1 => spoil(rng, &mut case.dst, &mut case.d),
@@ -97,10 +97,10 @@ pub fn random(run: &mut Run, rng: &mut Rng) -> Checked {
         }
         3 => (case.dst, case.d) = another_size(rng, width, height),
         4 => case.bytes = bytes - 1,
-        5 => case.words = words - 1,
+        5 => case.u64s = u64s - 1,
         6 => case.bytes = rng.below(bytes),
-        7 => case.words = rng.below(words),
-        8 => (case.bytes, case.words) = (rng.below(bytes), rng.below(words)),
+        7 => case.u64s = rng.below(u64s),
+        8 => (case.bytes, case.u64s) = (rng.below(bytes), rng.below(u64s)),
         _ => {}
     }
     patterns::mix(rng, &mut case.k, &mut case.dynamic_range);

@@ -24,12 +24,12 @@ use Rattle.pgm.specs.Line.{Writes}
 use Rattle.pgm.specs.Parse.{parsedOf}
 use Rattle.pgm.specs.ParseLaws.{parsed-answers}
 use Rattle.answer.specs.Answer.{settings, tight, Buffers, lentTo, answerOf, AnswersInput}
-use Rattle.answer.specs.Program.{empty, pictureLine, pictureMarks, mostPixels, mostBytes, mostWords, AnswersAndMarks}
+use Rattle.answer.specs.Program.{empty, pictureLine, pictureMarks, mostPixels, mostBytes, mostU64s, AnswersAndMarks}
 use Rattle.answer.specs.ProgramLaws.{line-picture, line-other, marks-picture, marks-by}
 use Rattle.answer.specs.RoomLaws.{room-enough, empty-refused}
 
 module _ (input : List ℕ) {lent left : Buffers} {n : ℕ}
-    (d : mostPixels ≤ length (lent .dst)) (b : mostBytes ≤ length (lent .bytes)) (q : mostWords ≤ length (lent .words))
+    (d : mostPixels ≤ length (lent .dst)) (b : mostBytes ≤ length (lent .bytes)) (q : mostU64s ≤ length (lent .u64s))
     (a : AnswersInput input lent n left)
   where
     Answer : Type 0
@@ -55,7 +55,7 @@ module _ (input : List ℕ) {lent left : Buffers} {n : ℕ}
     -- a picture with a zero side is refused, and any other is read
     either : (w h : ℕ) (f : Form input w h) (e : Bool) → empty w h ≡ e → Answer
     either w h f true x =
-        let rest = readingSettings settings then readingRoom (tight w h) settings (length (lent .bytes)) (length (lent .words)) in
+        let rest = readingSettings settings then readingRoom (tight w h) settings (length (lent .bytes)) (length (lent .u64s)) in
         checked w h f (Refused (Image EmptyDimensions)) (empty-refused w h _ _ rest x) (rw x) (rw x)
     either w h f false x =
         let s = neither (eqb w 0) (eqb h 0) x in

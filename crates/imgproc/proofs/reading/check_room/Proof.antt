@@ -10,7 +10,7 @@ use Rattle.imgproc.specs.GridCalls.{tileCount}
 use Rattle.imgproc.specs.SauvolaLaws.{entries-small}
 use Rattle.imgproc.specs.Tables.{entriesLimit}
 use Rattle.imgproc.proofs.grid.tiles.Counts.{total, few}
-use Rattle.imgproc.proofs.reading.Ways.{bytes-short, words-short, room-enough}
+use Rattle.imgproc.proofs.reading.Ways.{bytes-short, u64s-short, room-enough}
 use Rattle.imgproc.proofs.reading.check_room.Statement.{statement}
 use Rattle.imgproc.proofs.reading.check_room.Tie as tie
 
@@ -75,7 +75,7 @@ add-if2-3 : tie.Need-add-if2-3
 add-if2-3 c = let t = c .before in omega (arith, tiles t, entries t)
 
 returns-2 : tie.Need-returns-2
-returns-2 c = let t = c .before .before in words-short (start t .args .geometry) (start t .args .config) _ _ _ (count t) (c .before .if1 .left) (c .if2 .taken)
+returns-2 c = let t = c .before .before in u64s-short (start t .args .geometry) (start t .args .config) _ _ _ (count t) (c .before .if1 .left) (c .if2 .taken)
 
 returns-3 : tie.Need-returns-3
 returns-3 c = let t = c .before .before in room-enough (start t .args .geometry) (start t .args .config) _ _ _ (count t) (c .before .if1 .left) (c .if2 .left)

@@ -18,7 +18,7 @@ slice-aggregate-gather c = sym (prefix-long (c .before .before .before .before .
 gather-requires : tie.Need-gather-requires
 gather-requires c κs =
     let ready = c .before .before .before .before .before .pre in
-    (prefix-kept ready, sized ready, omega (arith, ready .words-fit))
+    (prefix-kept ready, sized ready, omega (arith, ready .u64s-fit))
 
 write-skips-requires : tie.Need-write-skips-requires
 write-skips-requires c κs =

@@ -107,7 +107,7 @@ read-picture-requires c κs =
     let y = says (start (s .before) .args .config) (sym (s .check-settings .ensures) ∙ k .enum-told3 .given .1) in
     let g = first (s .before) .before .layout .given .0 .0 in
     let fit = room-says g (start (s .before) .args .config) _ _ (sym (r .check-room .ensures) ∙ j .enum-told4 .given .1) in
-    record { pair = paired p; settings = y; bytes-fit = fit .0; words-fit = fit .1 }
+    record { pair = paired p; settings = y; bytes-fit = fit .0; u64s-fit = fit .1 }
 
 same-length : tie.Need-same-length
 same-length c = c .before .before .before .before .before .before .read-picture .kept .1 .1 .0
