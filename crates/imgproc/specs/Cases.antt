@@ -1,8 +1,10 @@
--- Worked cases: what a definition computes beside what is stated, and which of a list of them are wrong. Definitions only.
+-- Worked cases: what a definition computes beside what is stated, and which of a list of them are wrong.
+-- Definitions only.
 use mathlib.Core.Bool.{Bool, true, false, cond, _&&_}
 use mathlib.Core.List.{List, [], _∷_}
 use Prim.Native.Nat.{ℕ, suc}
 use lib.Dec.{eqb}
+use Rattle.image.specs.declared.Geometry.{Geometry}
 
 infix 10 _gives_
 -- what is computed, and the answer that is right
@@ -24,3 +26,7 @@ right (computed gives stated) = same computed stated
 abbrev pub wrong : ℕ → List Case → List ℕ
 wrong n [] = []
 wrong n (c ∷ cs) = cond (right c) (wrong (suc n) cs) (n ∷ wrong (suc n) cs)
+
+-- w by h pixels at a stride
+abbrev pub geometry : ℕ → ℕ → ℕ → Geometry
+geometry w h stride = record { width = w; height = h; stride = stride }

@@ -1,4 +1,5 @@
--- The one fold that gives every minimum, maximum, sum and count, along a line and over a box of pixels. Definitions only.
+-- The one fold that gives every minimum, maximum, sum and count, along a line and over a box of pixels.
+-- Definitions only.
 use Prim.Native.Nat.{ℕ, zero, suc, _+_, _-_}
 use mathlib.Core.Bool.{Bool, true, false}
 

@@ -17,8 +17,14 @@ use Rattle.imgproc.specs.Root.{rootOf}
 
 -- the Rust's settings: Midrange tiles 16 by 16, radius 1, offset 0, contrast floor 12
 abbrev pub gridDefaults : TileThresholdConfig
-gridDefaults =
-    record { «tile_width» = 16; «tile_height» = 16; «neighborhood_radius» = 1; «threshold_offset» = pos 0; «contrast_floor» = 12; method = Midrange }
+gridDefaults = record {
+  «tile_width» = 16;
+  «tile_height» = 16;
+  «neighborhood_radius» = 1;
+  «threshold_offset» = pos 0;
+  «contrast_floor» = 12;
+  method = Midrange;
+}
 
 -- tiles_x = ⌈w / tile_width⌉
 abbrev pub tilesX : TileThresholdConfig → ℕ → ℕ
@@ -94,7 +100,8 @@ varianceOf S Q c =
 unfoldable pub sauvolaOf : ℕ → ℕ → ℕ → Float → Float → Float
 unfolding meanOf varianceOf rootOf add sub mul div
 sauvolaOf S Q c k range =
-    mul binary64 (meanOf S c) (add binary64 unit (mul binary64 k (sub binary64 (div binary64 (rootOf (varianceOf S Q c)) range) unit)))
+    mul binary64 (meanOf S c)
+    (add binary64 unit (mul binary64 k (sub binary64 (div binary64 (rootOf (varianceOf S Q c)) range) unit)))
 
 -- i + 0.5, exactly: (2 × i + 1) / 2
 abbrev pub halfPast : ℕ → Float
@@ -123,7 +130,8 @@ unfolding baseOf foldBox
 thresholdOf g w h p i j =
     let b = around g w h i j in
     let f = pixel p w in
-    clipped (pos (baseOf (g .method) (least f b) (most f b) (sum f b) (sumSquares f b) (count b)) +ℤ g .«threshold_offset»)
+    clipped
+    (pos (baseOf (g .method) (least f b) (most f b) (sum f b) (sumSquares f b) (count b)) +ℤ g .«threshold_offset»)
 
 -- the thresholds that a build stores, tile row after tile row
 unfoldable pub thresholds : TileThresholdConfig → ℕ → ℕ → List ℕ → List ℕ

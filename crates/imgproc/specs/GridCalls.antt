@@ -1,5 +1,6 @@
--- What the calls of the tile grid refuse, answer and leave. Definitions only.
-use Prim.Native.Nat.{ℕ, zero, suc, _+_, _*_, _/_, _≤_}
+-- The contracts of the tile grid's calls: each call's refusals, its answer and the buffers that it leaves.
+-- Definitions only.
+use Prim.Native.Nat.{ℕ, zero, suc, _+_, _*_, _/_}
 use mathlib.Core.Path.{_≡_}
 use mathlib.Core.Bool.{Bool, true, not, _&&_, _||_}
 use mathlib.Core.List.{List}
@@ -13,7 +14,12 @@ use Rattle.image.specs.Answers.{Answer, accepted, refused}
 use Rattle.image.specs.Layout.{sideLimit}
 use Rattle.image.specs.Plane.{overwritten, picture}
 use Rattle.imgproc.specs.declared.ImgProcError.{ImgProcError}
-use Rattle.imgproc.specs.declared.ImgProcError.the-variants.{Image, InvalidConfiguration, WorkspaceTooSmall, GridBufferTooSmall}
+use Rattle.imgproc.specs.declared.ImgProcError.the-variants.{
+  Image,
+  InvalidConfiguration,
+  WorkspaceTooSmall,
+  GridBufferTooSmall,
+}
 use Rattle.imgproc.specs.declared.Check.{Check}
 use Rattle.imgproc.specs.declared.Check.the-variants.{Accepted, Refused}
 use Rattle.imgproc.specs.declared.grid.config.TileThresholdConfig.{TileThresholdConfig}
@@ -25,7 +31,10 @@ use Rattle.imgproc.specs.declared.grid.Built.the-variants.{Tiles, Refuse
 use Rattle.imgproc.specs.declared.grid.queries.TilePlace.{TilePlace}
 use Rattle.imgproc.specs.declared.grid.queries.TilePlace.the-variants.{At, Refused as TilePlace·Refused}
 use Rattle.imgproc.specs.declared.grid.queries.TileThreshold.{TileThreshold}
-use Rattle.imgproc.specs.declared.grid.queries.TileThreshold.the-variants.{Value, Refused as TileThreshold·Refused}
+use Rattle.imgproc.specs.declared.grid.queries.TileThreshold.the-variants.{
+  Value,
+  Refused as TileThreshold·Refused,
+}
 use Rattle.imgproc.specs.declared.grid.queries.TileSkip.{TileSkip}
 use Rattle.imgproc.specs.declared.grid.queries.TileSkip.the-variants.{Is, Refused as TileSkip·Refused}
 use Rattle.imgproc.specs.Reach.{ceiling}
@@ -56,7 +65,8 @@ usableMethod (Sauvola s) = usableFloats (s .k) (s .«dynamic_range»)
 -- zero tile side, or for Sauvola k or dynamic_range not finite or dynamic_range ≤ 0
 unfoldable pub gridSettings : TileThresholdConfig → Conditions
 gridSettings g =
-    refusedIf (eqb (g .«tile_width») 0 || eqb (g .«tile_height») 0 || not (usableMethod (g .method))) InvalidConfiguration
+    refusedIf (eqb (g .«tile_width») 0 || eqb (g .«tile_height») 0 || not (usableMethod (g .method)))
+    InvalidConfiguration
 
 -- t = tiles_x × tiles_y
 abbrev pub tileCount : TileThresholdConfig → ℕ → ℕ → ℕ
@@ -83,59 +93,60 @@ pub record BuildLeft : Type 0 where
   pub thresholds : List ℕ
   pub skips : List ℕ
 
+-- t, the tiles of what was lent
+abbrev pub tilesLent : BuildLent → ℕ
+tilesLent lent = tileCount (lent .settings) (lent .source .width) (lent .source .height)
+
+-- the threshold buffer after an accepted build: the picture's thresholds in its first t bytes
+abbrev pub thresholdsOver : BuildLent → List ℕ
+thresholdsOver lent =
+    let g = lent .source in
+    overwritten 0 (thresholds (lent .settings) (g .width) (g .height) (picture (lent .src) g)) (lent .thresholds)
+
+-- the skip buffer after an accepted build: the picture's skips in its first t bytes
+abbrev pub skipsOver : BuildLent → List ℕ
+skipsOver lent =
+    let g = lent .source in
+    overwritten 0 (skips (lent .settings) (g .width) (g .height) (picture (lent .src) g)) (lent .skips)
+
 -- the values of a build
 pub record TileCounts : Type 0 where
   pub tiles-x : ℕ
   pub tiles-y : ℕ
 
--- what `Built` says: the tile counts, or the number of the refusal
+-- `Built` says the tile counts, or the number of the refusal
 abbrev pub builtAnswer : Built → Answer TileCounts
 builtAnswer (Tiles x y) = accepted (record { tiles-x = x; tiles-y = y })
 builtAnswer (Built·Refused e) = refused (errorNumber e)
 
--- what a build with settings that are checked by a list of their own is refused for: the layout; the settings; the room
+-- a build is refused for its layout; its settings, by a list of their own; its room
 abbrev pub buildConditionsBy : Conditions → BuildLent → Conditions
 buildConditionsBy settings lent =
     viewConditions (length (lent .src)) (lent .source) then
     settings then
-    gridRoom (tileCount (lent .settings) (lent .source .width) (lent .source .height)) (length (lent .workspace)) (length (lent .thresholds)) (length (lent .skips))
+    gridRoom (tilesLent lent) (length (lent .workspace)) (length (lent .thresholds)) (length (lent .skips))
 
 abbrev pub buildConditions : BuildLent → Conditions
 buildConditions lent = buildConditionsBy (gridSettings (lent .settings)) lent
 
 -- the tile counts of what was lent
 abbrev pub tilesFrom : BuildLent → TileCounts
-tilesFrom lent =
-    record { tiles-x = tilesX (lent .settings) (lent .source .width); tiles-y = tilesY (lent .settings) (lent .source .height) }
+tilesFrom lent = record {
+  tiles-x = tilesX (lent .settings) (lent .source .width);
+  tiles-y = tilesY (lent .settings) (lent .source .height);
+}
 
--- a build by a list of conditions: the first t bytes of both buffers are the picture's thresholds and skips, and every other byte is as it was
+-- a build by a list of conditions: the first t bytes of both buffers are the picture's thresholds and skips, and every
+-- other byte is as it was
 pub record BuildsBy (cs : Conditions) (lent : BuildLent) (answer : Answer TileCounts) (left : BuildLeft) : Type 0 where
   pub answers : answer ≡ answerBy (first cs) (tilesFrom lent)
-  pub thresholds-left : left .thresholds
-      ≡ leftBy (first cs)
-      (overwritten 0 (thresholds (lent .settings) (lent .source .width) (lent .source .height) (picture (lent .src) (lent .source))) (lent .thresholds))
-      (lent .thresholds)
-  pub skips-left : left .skips
-      ≡ leftBy (first cs)
-      (overwritten 0 (skips (lent .settings) (lent .source .width) (lent .source .height) (picture (lent .src) (lent .source))) (lent .skips))
-      (lent .skips)
+  pub thresholds-left : left .thresholds ≡ leftBy (first cs) (thresholdsOver lent) (lent .thresholds)
+  pub skips-left : left .skips ≡ leftBy (first cs) (skipsOver lent) (lent .skips)
   pub workspace-left : Lent (first cs) (lent .workspace) (left .workspace)
 
 -- the contract of `build`
 abbrev pub Builds : BuildLent → Answer TileCounts → BuildLeft → Type 0
 Builds lent = BuildsBy (buildConditions lent) lent
-
--- buffers that hold t tiles
-pub record Rooms (t : ℕ) (ws th sk : List ℕ) : Type 0 where
-  pub workspace : 5 * t ≤ length ws
-  pub thresholds : t ≤ length th
-  pub skips : t ≤ length sk
-
--- what an accepted build leaves
-pub record Fills (src : List ℕ) (s : Geometry) (g : TileThresholdConfig) (ws th sk ws′ th′ sk′ : List ℕ) : Type 0 where
-  pub thresholds-left : th′ ≡ overwritten 0 (thresholds g (s .width) (s .height) (picture src s)) th
-  pub skips-left : sk′ ≡ overwritten 0 (skips g (s .width) (s .height) (picture src s)) sk
-  pub long : length ws′ ≡ length ws
 
 -- ---- queries
 
@@ -184,17 +195,17 @@ unfoldable pub allSkipped : List ℕ → ℕ → ℕ → Bool
 allSkipped d i zero = true
 allSkipped d i (suc n) = allSkipped d i n && skipped d (i + n)
 
--- what `TileThreshold` says: the byte, or the number of the refusal
+-- `TileThreshold` says the byte, or the number of the refusal
 abbrev pub tileThresholdAnswer : TileThreshold → Answer ℕ
 tileThresholdAnswer (Value v) = accepted v
 tileThresholdAnswer (TileThreshold·Refused e) = refused (errorNumber e)
 
--- what `TileSkip` says: yes or no, or the number of the refusal
+-- `TileSkip` says yes or no, or the number of the refusal
 abbrev pub tileSkipAnswer : TileSkip → Answer Bool
 tileSkipAnswer (Is b) = accepted b
 tileSkipAnswer (TileSkip·Refused e) = refused (errorNumber e)
 
--- the contracts of the three queries: the stored threshold, the stored skip, and whether the whole tile row is skipped
+-- the answers of the three queries: the stored threshold, the stored skip, and whether the whole tile row is skipped
 abbrev pub thresholdAsked : TileThresholdGrid → List ℕ → ℕ → ℕ → Answer ℕ
 thresholdAsked q d x y = answerBy (first (pixelConditions q (length d) x y)) (getD d (tileOf q x y) 0)
 

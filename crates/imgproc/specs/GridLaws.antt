@@ -1,8 +1,18 @@
--- What makes a sceptic believe the grid: its tile counts, and which pixels a tile and a neighbourhood hold. Assumes nothing.
+-- Laws of the grid: its tile counts, and which pixels a tile and a neighbourhood hold. Assumes nothing.
 use mathlib.Core.Path.{_≡_, sym}
 use mathlib.Core.Logic.{_↔_}
 use Prim.Native.Nat.{ℕ, suc, _+_, _-_, _*_, _/_, _%_, _≤_, _<_}
-use native.Mathlib.Nat.{le-div-iff-mul-le, div-lt-iff-lt-mul, suc-mul, div-mul-le-self, mul-div-cancel, div-eq-of-lt-le, div-add-mod', mod-lt, mul-le-mul-left}
+use native.Mathlib.Nat.{
+  le-div-iff-mul-le,
+  div-lt-iff-lt-mul,
+  suc-mul,
+  div-mul-le-self,
+  mul-div-cancel,
+  div-eq-of-lt-le,
+  div-add-mod',
+  mod-lt,
+  mul-le-mul-left,
+}
 use native.Mathlib.Omega.{arith}
 use mathlib.Core.Bool.{false}
 use mathlib.Core.List.{List}
@@ -36,7 +46,10 @@ tile-starts n t i T I = omega (arith, le-div-iff-mul-le {k = t} {x = suc i} {y =
 -- there are no more tiles than samples, and some where there is one
 pub ceiling-small : (n t : ℕ) → 0 < t → ceiling n t ≤ n
 ceiling-small n t T =
-    omega (arith, div-lt-iff-lt-mul {k = t} {x = n + t - 1} {y = suc n} T .1 (omega (arith, suc-mul n t, mul-le-mul-left n T)))
+    omega (
+      arith,
+      div-lt-iff-lt-mul {k = t} {x = n + t - 1} {y = suc n} T .1 (omega (arith, suc-mul n t, mul-le-mul-left n T)),
+    )
 
 pub ceiling-some : (n t : ℕ) → 0 < t → 0 < n → 0 < ceiling n t
 ceiling-some n t T N = le-div-iff-mul-le {k = t} {x = 1} {y = n + t - 1} T .1 (omega arith)
@@ -59,22 +72,25 @@ floor-0 g w h p i j z =
 
 -- ---- which pixels
 
--- the neighbourhood of a tile holds, along an axis of n with tiles of t, just the samples whose tile is within the radius of tile a
+-- the neighbourhood of a tile holds, along an axis of n with tiles of t, just the samples whose tile is within the
+-- radius of tile a
 pub near-tiles : (r n t a i : ℕ) → 0 < t → i < n
     → Between (tileFrom t (low r a)) (tileTo t n (high r (ceiling n t) a)) i ↔ Near r a (i / t)
 near-tiles r n t a i T I =
     let top = high r (ceiling n t) a in
-    let last : i / t ≤ ceiling n t - 1 = omega (arith, le-div-iff-mul-le {k = t} {x = suc (i / t)} {y = n + t - 1} T .1 (omega (arith, suc-mul (i / t) t, div-mul-le-self i t))) in (
+    let room : suc (i / t) * t ≤ n + t - 1 = omega (arith, suc-mul (i / t) t, div-mul-le-self i t) in
+    let last : i / t ≤ ceiling n t - 1 = omega (
+      arith,
+      le-div-iff-mul-le {k = t} {x = suc (i / t)} {y = n + t - 1} T .1 room,
+    ) in (
       λ p. omega (
         arith,
-        le-div-iff-mul-le {k =
-            t} {x = low r a} {y = i} T .1 (p .0),
+        le-div-iff-mul-le {k = t} {x = low r a} {y = i} T .1 (p .0),
         div-lt-iff-lt-mul {k = t} {x = i} {y = suc top} T .1 (omega (arith, suc-mul top t)),
       ),
       λ p. omega (
         arith,
-        le-div-iff-mul-le {k =
-            t} {x = low r a} {y = i} T .0 (omega arith),
+        le-div-iff-mul-le {k = t} {x = low r a} {y = i} T .0 (omega arith),
         div-lt-iff-lt-mul {k = t} {x = i} {y = suc top} T .0 (omega arith),
         suc-mul top t,
       ),
@@ -82,10 +98,13 @@ near-tiles r n t a i T I =
 
 -- the neighbourhood of tile (a, b) holds just the pixels whose tile is within the radius on both axes
 pub around-is : (g : TileThresholdConfig) (w h a b i j : ℕ) → 0 < g .«tile_width» → 0 < g .«tile_height» → i < w → j < h
-    → Inside (around g w h a b) (i, j) ↔ (Near (g .«neighborhood_radius») a (i / g .«tile_width») × Near (g .«neighborhood_radius») b (j / g .«tile_height»))
+    → Inside (around g w h a b) (i, j)
+    ↔ (Near (g .«neighborhood_radius») a (i / g .«tile_width»)
+    × Near (g .«neighborhood_radius») b (j / g .«tile_height»))
 around-is g w h a b i j W H I Z =
     let x = near-tiles (g .«neighborhood_radius») w (g .«tile_width») a i W I in
-    let y = near-tiles (g .«neighborhood_radius») h (g .«tile_height») b j H Z in (λ p. (x .0 (p .0), y .0 (p .1)), λ p. (x .1 (p .0), y .1 (p .1)))
+    let y = near-tiles (g .«neighborhood_radius») h (g .«tile_height») b j H Z in
+    (λ p. (x .0 (p .0), y .0 (p .1)), λ p. (x .1 (p .0), y .1 (p .1)))
 
 -- it has a pixel, so that its minimum and maximum are extremes
 axis-some : (r n t a : ℕ) → 0 < t → a < ceiling n t → tileFrom t (low r a) ≤ tileTo t n (high r (ceiling n t) a)

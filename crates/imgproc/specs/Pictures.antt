@@ -1,4 +1,5 @@
--- The starred pictures of document 01, and a few of our own for columns, both axes and borders, as one table that antt evaluates. Assumes nothing.
+-- The starred pictures of document 01, and a few of our own for columns, both axes and borders, as one table that antt
+-- evaluates. Assumes nothing.
 use mathlib.Core.Path.{_≡_, refl}
 use mathlib.Core.List.{List, [], _∷_, _++_}
 use Prim.Native.Nat.{ℕ, min, _*_}
@@ -33,7 +34,8 @@ morphologyPictures =
     (closed 3 6 1 (0 ∷ 0 ∷ 0 ∷ 4 ∷ 0 ∷ 0 ∷ []) gives 0 ∷ 0 ∷ 0 ∷ 4 ∷ 4 ∷ 4 ∷ []) ∷
     -- a column; both axes at once; a kernel for each axis
     (dilated 3 1 3 (1 ∷ 0 ∷ 0 ∷ []) gives 1 ∷ 1 ∷ 1 ∷ []) ∷
-    (eroded 3 4 3 (9 ∷ 9 ∷ 9 ∷ 9 ∷ 9 ∷ 9 ∷ 9 ∷ 9 ∷ 9 ∷ 9 ∷ 9 ∷ 2 ∷ []) gives 9 ∷ 9 ∷ 2 ∷ 2 ∷ 9 ∷ 9 ∷ 2 ∷ 2 ∷ 9 ∷ 9 ∷ 2 ∷ 2 ∷ []) ∷
+    (eroded 3 4 3 (9 ∷ 9 ∷ 9 ∷ 9 ∷ 9 ∷ 9 ∷ 9 ∷ 9 ∷ 9 ∷ 9 ∷ 9 ∷ 2 ∷ []) gives
+    9 ∷ 9 ∷ 2 ∷ 2 ∷ 9 ∷ 9 ∷ 2 ∷ 2 ∷ 9 ∷ 9 ∷ 2 ∷ 2 ∷ []) ∷
     (sweptRect min 3 5 4 2 (9 ∷ 9 ∷ 9 ∷ 2 ∷ 9 ∷ 9 ∷ 9 ∷ 9 ∷ []) gives 9 ∷ 9 ∷ 2 ∷ 2 ∷ 9 ∷ 9 ∷ 2 ∷ 2 ∷ []) ∷
     []
 
@@ -51,6 +53,8 @@ divisionPictures =
     11 ∷ 222 ∷ 50 ∷ 100 ∷ 100 ∷ 5 ∷ 200 ∷ 13 ∷ 255 ∷ 44 ∷ 0 ∷ 200 ∷ 3 ∷ 200 ∷ 171 ∷ 51 ∷ []) ∷
     []
 
-pub pictures-hold : wrong 1 (morphologyPictures ++ (divisionPictures ++ (sauvolaPictures ++ (gridPictures ++ readingPictures)))) ≡ []
-unfolding readingPictures readingOf marked morphologyPictures divisionPictures sauvolaPictures gridPictures thresholds skips ofBits lt badGrid allSkipped sweptRect walk R divided thresholdAtPixel binarized packed painted
+pub pictures-hold :
+    wrong 1 (morphologyPictures ++ (divisionPictures ++ (sauvolaPictures ++ (gridPictures ++ readingPictures)))) ≡ []
+unfolding readingPictures readingOf marked morphologyPictures divisionPictures sauvolaPictures gridPictures
+    thresholds skips ofBits lt badGrid allSkipped sweptRect walk R divided thresholdAtPixel binarized packed painted
 pictures-hold = refl

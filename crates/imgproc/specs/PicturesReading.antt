@@ -1,20 +1,28 @@
--- The pictures of document 01's part 7, and two of our own with several rows and all three judgements: a part of the table in Pictures. Definitions only.
+-- The pictures of document 01's part 7, and two of our own with several rows and all three judgements: a part of the
+-- table in Pictures. Definitions only.
 use mathlib.Core.List.{List, [], _∷_}
 use Prim.Native.Nat.{ℕ}
 use lib.IntN.{pos}
 use lib.ListN.{replicate}
-use Rattle.image.specs.Plane.{packed, painted}
+use Rattle.image.specs.Plane.{picture, paintedOn}
 use Rattle.imgproc.specs.declared.grid.config.TileThresholdConfig.{TileThresholdConfig}
 use Rattle.imgproc.specs.declared.grid.config.TileThresholdMethod.the-variants.{Midrange}
 use Rattle.imgproc.specs.declared.threshold.SauvolaConfig.{SauvolaConfig}
 use Rattle.imgproc.specs.declared.reading.config.ReadingConfig.{ReadingConfig}
 use Rattle.imgproc.specs.Sauvola.{sauvolaDefaults}
 use Rattle.imgproc.specs.Reading.{ReadingNumbers, readingOf, marked}
-use Rattle.imgproc.specs.Cases.{Case, _gives_}
+use Rattle.imgproc.specs.Cases.{Case, _gives_, geometry}
 
 -- tiles of t by t with a neighbourhood radius of 1 and a contrast floor
 abbrev pub tilesOf : ℕ → ℕ → TileThresholdConfig
-tilesOf t floor = record { «tile_width» = t; «tile_height» = t; «neighborhood_radius» = 1; method = Midrange; «threshold_offset» = pos 0; «contrast_floor» = floor }
+tilesOf t floor = record {
+  «tile_width» = t;
+  «tile_height» = t;
+  «neighborhood_radius» = 1;
+  «threshold_offset» = pos 0;
+  «contrast_floor» = floor;
+  method = Midrange;
+}
 
 -- the element, m, the grid and the threshold's settings, with the Rust's target and floor
 abbrev pub settings : ℕ → ℕ → TileThresholdConfig → SauvolaConfig → ReadingConfig
@@ -38,7 +46,9 @@ shaded =
     []
 
 abbrev pub shadedSettings : ReadingConfig
-shadedSettings = settings 5 3 (tilesOf 2 12) (record { radius = 1; «k_milli» = 200; «dynamic_range» = 128; «dark_value» = 7; «light_value» = 9 })
+shadedSettings =
+    settings 5 3 (tilesOf 2 12)
+    (record { radius = 1; «k_milli» = 200; «dynamic_range» = 128; «dark_value» = 7; «light_value» = 9 })
 
 unfoldable pub readingPictures : List Case
 readingPictures =
@@ -46,11 +56,12 @@ readingPictures =
     (counts (readingOf (settings 3 3 (tilesOf 16 12) sauvolaDefaults) 2 1 (0 ∷ 200 ∷ [])) gives 0 ∷ 0 ∷ 2 ∷ 24 ∷ []) ∷
     (counts (readingOf (settings 3 3 (tilesOf 16 0) sauvolaDefaults) 2 1 (0 ∷ 200 ∷ [])) gives 2 ∷ 0 ∷ 0 ∷ 24 ∷ []) ∷
     -- the element is not m
-    (counts (readingOf (settings 5 3 (tilesOf 16 0) sauvolaDefaults) 4 1 (9 ∷ 9 ∷ 9 ∷ 0 ∷ [])) gives 1 ∷ 3 ∷ 0 ∷ 52 ∷ []) ∷
+    (counts (readingOf (settings 5 3 (tilesOf 16 0) sauvolaDefaults) 4 1 (9 ∷ 9 ∷ 9 ∷ 0 ∷ [])) gives
+    1 ∷ 3 ∷ 0 ∷ 52 ∷ []) ∷
     -- all three judgements
-    (counts (readingOf shadedSettings 6 4 (packed shaded 6 4 8)) gives 6 ∷ 10 ∷ 8 ∷ 440 ∷ []) ∷
+    (counts (readingOf shadedSettings 6 4 (picture shaded (geometry 6 4 8))) gives 6 ∷ 10 ∷ 8 ∷ 440 ∷ []) ∷
     -- and their bytes, in a destination of stride 7 with a row and a byte after the last
-    (painted (marked shadedSettings 6 4 (packed shaded 6 4 8)) 6 4 7 (replicate 36 1) gives
+    (paintedOn (replicate 36 1) (geometry 6 4 7) (marked shadedSettings 6 4 (picture shaded (geometry 6 4 8))) gives
     9 ∷ 7 ∷ 9 ∷ 9 ∷ 9 ∷ 9 ∷ 1 ∷
     9 ∷ 7 ∷ 9 ∷ 7 ∷ 9 ∷ 9 ∷ 1 ∷
     9 ∷ 7 ∷ 9 ∷ 9 ∷ 9 ∷ 9 ∷ 1 ∷

@@ -1,14 +1,14 @@
--- The pictures of document 01's part 6, and one of our own with rows, columns and clipped corners: a part of the table in Pictures. Definitions only.
+-- The pictures of document 01's part 6, and one of our own with rows, columns and clipped corners: a part of the table
+-- in Pictures. Definitions only.
 use mathlib.Core.List.{List, [], _∷_}
 use Prim.Native.Nat.{ℕ}
 use lib.ListN.{replicate}
-use Rattle.image.specs.declared.Geometry.{Geometry}
-use Rattle.image.specs.Plane.{plane, packed}
+use Rattle.image.specs.Plane.{plane, picture, paintedOn}
 use Rattle.imgproc.specs.declared.threshold.SauvolaConfig.{SauvolaConfig}
-use Rattle.imgproc.specs.Sauvola.{sauvolaDefaults, thresholdAtPixel, binarized, binarizedInto}
-use Rattle.imgproc.specs.Cases.{Case, _gives_}
+use Rattle.imgproc.specs.Sauvola.{sauvolaDefaults, thresholdAtPixel, binarized}
+use Rattle.imgproc.specs.Cases.{Case, _gives_, geometry}
 
--- the pixelThresholds of a packed picture
+-- the thresholds of the pixels of a packed picture
 abbrev pub pixelThresholds : SauvolaConfig → ℕ → ℕ → List ℕ → List ℕ
 unfolding thresholdAtPixel plane
 pixelThresholds config w h p = plane w h (thresholdAtPixel config w h p)
@@ -16,9 +16,6 @@ pixelThresholds config w h p = plane w h (thresholdAtPixel config w h p)
 -- the defaults with the radius r, and the values 7 and 9
 abbrev pub radiusOf : ℕ → SauvolaConfig
 radiusOf r = record { radius = r; «k_milli» = 200; «dynamic_range» = 128; «dark_value» = 7; «light_value» = 9 }
-
-abbrev pub geometry : ℕ → ℕ → ℕ → Geometry
-geometry w h stride = record { width = w; height = h; stride = stride }
 
 -- 3 by 4 at a stride of 5
 abbrev pub mixed : List ℕ
@@ -40,16 +37,19 @@ sauvolaPictures =
     (pixelThresholds (radiusOf 9) 10 1 (255 ∷ 255 ∷ 255 ∷ 255 ∷ 255 ∷ 255 ∷ 255 ∷ 255 ∷ 255 ∷ 254 ∷ []) gives
     211 ∷ 211 ∷ 211 ∷ 211 ∷ 211 ∷ 211 ∷ 211 ∷ 211 ∷ 211 ∷ 211 ∷ []) ∷
     -- the root of the variance 10200 is cut to 100; a threshold is no byte
-    (pixelThresholds (record { radius = 8; «k_milli» = 1000; «dynamic_range» = 1; «dark_value» = 0; «light_value» = 255 }) 2 1 (0 ∷ 201 ∷ []) gives 10000 ∷ 10000 ∷ []) ∷
+    (pixelThresholds
+    (record { radius = 8; «k_milli» = 1000; «dynamic_range» = 1; «dark_value» = 0; «light_value» = 255 })
+    2 1 (0 ∷ 201 ∷ []) gives
+    10000 ∷ 10000 ∷ []) ∷
     -- windows of nine, six and four pixels
-    (pixelThresholds (radiusOf 1) 3 4 (packed mixed 3 4 5) gives
+    (pixelThresholds (radiusOf 1) 3 4 (picture mixed (geometry 3 4 5)) gives
     123 ∷ 96 ∷ 81 ∷
     96 ∷ 101 ∷ 97 ∷
     67 ∷ 92 ∷ 83 ∷
     27 ∷ 77 ∷ 97 ∷
     []) ∷
     -- the bytes, in a destination of stride 4 with a row and a byte after the last
-    (binarizedInto (radiusOf 1) mixed (geometry 3 4 5) (replicate 21 1) (geometry 3 4 4) gives
+    (paintedOn (replicate 21 1) (geometry 3 4 4) (binarized (radiusOf 1) 3 4 (picture mixed (geometry 3 4 5))) gives
     7 ∷ 9 ∷ 7 ∷ 1 ∷
     9 ∷ 7 ∷ 7 ∷ 1 ∷
     9 ∷ 7 ∷ 9 ∷ 1 ∷

@@ -35,7 +35,7 @@ use Rattle.imgproc.specs.Reading.{
 
 -- what `judge` goes by: the opened picture, packed, its skips as bytes, and its tables
 pub record JudgeReady (o : List ℕ) (g : Geometry) (sk ws : List ℕ) (at : ℕ) (s : ReadingConfig) : Type 0 where
-  pub tables : Ready o g ws at (s .sauvola)
+  pub tables : Ready (record { src = o; source = g; workspace = ws; at = at; settings = s .sauvola })
   pub tight : g .stride ≡ g .width
   pub whole : length o ≡ g .width * g .height
   pub tile-width : 0 < s .grid .«tile_width»

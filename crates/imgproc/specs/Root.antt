@@ -1,6 +1,7 @@
--- IEEE 754's square root at binary64, over the values of `lib.Ieee`: the value nearest to the real root, a tie to the even one.
--- There are no real numbers here, so the root is compared with the points half way between two values by their squares.
--- That no finite f64 is nearer to the real root of x than `rootOf x` is the law `best` of RootBest. Definitions only.
+-- IEEE 754's square root at binary64, over the values of `lib.Ieee`: the value nearest to the real root, a tie to the
+-- even one. There are no real numbers here, so the root is compared with the points half way between two values by
+-- their squares. That no finite f64 is nearer to the real root of x than `rootOf x` is the law `best` of RootBest.
+-- Definitions only.
 use Prim.Native.Nat.{ℕ, zero, suc, _+_, _-_, _*_, _/_, _^_, _<_, compare}
 use mathlib.Core.Bool.{Bool, true, false}
 use lib.Dec.{T}
@@ -9,9 +10,10 @@ use lib.Ieee.{Float, nan, inf, fin, binary64, low, prec, up, down, size, nearest
 use lib.Ieee.Scale.{finite}
 use Rattle.imgproc.specs.WholeRoot.{wholeRoot}
 
--- The value nearest to √n times the format's smallest value, for an n above 0. The format keeps the `prec` leading digits q of the whole root w, and drops k.
--- So √n lies from q * 2 ^ k up to (q + 1) * 2 ^ k, and half way between them is (2 * q + 1) * 2 ^ k / 2: which of the two is nearer, or that neither is,
--- is how 4 * n compares with the square of (2 * q + 1) * 2 ^ k. As in `round`, a tie goes to the even one.
+-- The value nearest to √n times the format's smallest value, for an n above 0. The format keeps the `prec` leading
+-- digits q of the whole root w, and drops k. So √n lies from q * 2 ^ k up to (q + 1) * 2 ^ k, and half way between them
+-- is (2 * q + 1) * 2 ^ k / 2: which of the two is nearer, or that neither is, is how 4 * n compares with the square of
+-- (2 * q + 1) * 2 ^ k. As in `round`, a tie goes to the even one.
 unfoldable pub nearestRoot : ℕ → Float
 unfolding wholeRoot size units
 nearestRoot n =
@@ -21,7 +23,8 @@ nearestRoot n =
     units binary64 false (nearest q (compare (4 * n) ((2 * q + 1) * 2 ^ k * ((2 * q + 1) * 2 ^ k)))) k
 
 -- The square root of each value of binary64: of zero that zero, sign and all, of a value below zero `nan`.
--- A value above zero is m * 2 ^ e, so in units of the smallest value, 2 ^ -low, its root is √(m * 2 ^ e * 2 ^ low * 2 ^ low). The division by `down e` is exact.
+-- A value above zero is m * 2 ^ e, so in units of the smallest value, 2 ^ -low, its root is √(m * 2 ^ e * 2 ^ low * 2 ^
+-- low). The division by `down e` is exact.
 unfoldable pub rootOf : Float → Float
 unfolding nearestRoot
 rootOf nan = nan

@@ -2,7 +2,22 @@
 use mathlib.Core.Path.{_≡_, refl, sym, ap, _∙_, subst}
 use Prim.Native.Nat.{ℕ, zero, suc, _+_, _-_, _*_, _/_, _%_, _^_, _≤_, _<_}
 use native.Mathlib.Omega.{arith}
-use native.Mathlib.Nat.{le-trans, le-of-eq, lt-of-le-of-lt, lt-of-lt-of-le, mul-le-mul-right, mul-lt-mul-of-pos-right, lt-of-mul-lt-mul-right, mul-pos, mul-assoc, mul-one, mul-right-comm, zero-mul, mul-div-cancel, zero-lt-suc}
+use native.Mathlib.Nat.{
+  le-trans,
+  le-of-eq,
+  lt-of-le-of-lt,
+  lt-of-lt-of-le,
+  mul-le-mul-right,
+  mul-lt-mul-of-pos-right,
+  lt-of-mul-lt-mul-right,
+  mul-pos,
+  mul-assoc,
+  mul-one,
+  mul-right-comm,
+  zero-mul,
+  mul-div-cancel,
+  zero-lt-suc,
+}
 use mathlib.Core.Bool.{Bool, true, false, _&&_, _||_, true≢false}
 use lib.IntN.{ℤ, pos, negsuc}
 use lib.Dec.{T, eqb, ltb, leb, ltb→lt, eqb→eq, lit<, lit≤}
@@ -24,7 +39,8 @@ exact a d k D e = e ∙ ap (λ (x : ℕ). x * d) (sym (ap (λ (x : ℕ). x / d) 
 -- a finite f64 is a whole number of units
 pub in-units : (s : Bool) (m : ℕ) (e : ℤ) → T (fits binary64 (fin s m e))
     → HasValue (fin s m e) s (unitsOf (fin s m e)) (2 ^ 1074)
-in-units s zero e f = (refl, exact (0 * up e * 2 ^ 1074) (down e) 0 (down-pos e) (zero-size e ∙ sym (zero-mul (down e))))
+in-units s zero e f =
+    (refl, exact (0 * up e * 2 ^ 1074) (down e) 0 (down-pos e) (zero-size e ∙ sym (zero-mul (down e))))
 in-units s (suc m) (pos p) f = let a = suc m * 2 ^ p * 2 ^ 1074 in (refl, exact a 1 a (lit< tt) (sym (mul-one a)))
 in-units s (suc m) (negsuc p) f =
     let k : suc p ≤ 1074 = pow-back (suc p) 1074 (down-le s m (negsuc p) f) in
@@ -87,7 +103,9 @@ at-zero n R N Z false u = (λ h. over (omega arith), λ h. absurd (none h))
   where
     over : 0 < u → 4 * n < (R + u) * (R + u)
     over h =
-        lt-of-le-of-lt (le-of-eq (ap (λ (x : ℕ). 4 * x) N)) (lt-of-lt-of-le (mul-pos h h) (square u (R + u) (omega arith)))
+        lt-of-le-of-lt
+        (le-of-eq (ap (λ (x : ℕ). 4 * x) N))
+        (lt-of-lt-of-le (mul-pos h h) (square u (R + u) (omega arith)))
 
     none : u < R → ⊥
     none h = omega (arith, Z)
@@ -99,7 +117,8 @@ at-zero n R N Z true u = λ h. absurd (none h)
 zero-units : (s : Bool) (e : ℤ) → unitsOf (fin s 0 e) ≡ 0
 zero-units s e = units-are (fin s 0 e) s 0 (refl, zero-size e ∙ sym (zero-mul (down e)))
 
-zero-best : (s : Bool) (e : ℤ) (t : Bool) (u : ℕ) → NearerThan (unitsOf (fin s 0 e) * 2 ^ 1074) (unitsOf (fin s 0 e)) t u
+zero-best : (s : Bool) (e : ℤ) (t : Bool) (u : ℕ)
+    → NearerThan (unitsOf (fin s 0 e) * 2 ^ 1074) (unitsOf (fin s 0 e)) t u
 zero-best s e =
     let a = unitsOf (fin s 0 e) in
     at-zero (a * 2 ^ 1074) a (ap (λ (x : ℕ). x * 2 ^ 1074) (zero-units s e) ∙ zero-mul (2 ^ 1074)) (zero-units s e)
@@ -156,8 +175,8 @@ root-finite (fin false (suc m) e) f h =
       value-not-below (rootOf x) (z .0) (z .1),
     )
 
--- For every finite f64 x that is not below zero, and every finite f64 y of either sign: `rootOf x` lies nearer to the real
--- root of x than y does, or y is that value. So no f64 is nearer, and there is never a tie.
+-- For every finite f64 x that is not below zero, and every finite f64 y of either sign: `rootOf x` lies nearer to the
+-- real root of x than y does, or y is that value. So no f64 is nearer, and there is never a tie.
 pub best : (x y : Float) → FiniteF64 x → NotBelowZero x → FiniteF64 y → RootNearerThan x y
 unfolding rootOf
 best x nan f h g = absurd (g .1)

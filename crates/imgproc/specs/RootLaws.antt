@@ -1,7 +1,23 @@
 -- `nearestRoot` and `rootOf` opened, for the laws about them: their values in units of the smallest value, 2 ^ -1074,
 -- and that the format holds them. Assumes nothing.
 use mathlib.Core.Path.{_≡_, refl, sym, ap, _∙_, subst}
-use Prim.Native.Nat.{ℕ, zero, suc, _+_, _-_, _*_, _/_, _^_, _≤_, _<_, compare, Ordering, Ordering·lt, Ordering·eq, Ordering·gt}
+use Prim.Native.Nat.{
+  ℕ,
+  zero,
+  suc,
+  _+_,
+  _-_,
+  _*_,
+  _/_,
+  _^_,
+  _≤_,
+  _<_,
+  compare,
+  Ordering,
+  Ordering·lt,
+  Ordering·eq,
+  Ordering·gt,
+}
 use native.Mathlib.Omega.{arith}
 use native.Mathlib.Nat.{le-trans, lt-of-lt-of-le, lt-of-le-of-lt, zero-mul, mul-right-comm, mul-pos, mul-div-cancel}
 use mathlib.Core.Bool.{Bool, true, false, not, cond, true≢false}
@@ -23,9 +39,11 @@ Cmp Ordering·gt a b = b < a
 
 pub cmp : (a b : ℕ) → Cmp (compare a b) a b
 cmp a b =
-    go (compare a b) (leb→le a b) (nleb→lt a b) (eqb→eq a b) (λ (e : a ≡ b). subst (λ (x : ℕ). T (eqb a x)) e (eqb-refl a))
+    go (compare a b) (leb→le a b) (nleb→lt a b) (eqb→eq a b)
+    (λ (e : a ≡ b). subst (λ (x : ℕ). T (eqb a x)) e (eqb-refl a))
   where
-    go : (o : Ordering) → (T (isLe o) → a ≤ b) → (T (not (isLe o)) → b < a) → (T (isEq o) → a ≡ b) → (a ≡ b → T (isEq o))
+    go : (o : Ordering) → (T (isLe o) → a ≤ b) → (T (not (isLe o)) → b < a) → (T (isEq o) → a ≡ b)
+        → (a ≡ b → T (isEq o))
         → Cmp o a b
     go Ordering·lt h k e n = lt-of-le-ne (h tt) n
     go Ordering·eq h k e n = e tt
@@ -74,7 +92,8 @@ pub units-fits : (h k : ℕ) → h ≤ 9007199254740992 → T (fits binary64 (un
 unfolding units
 units-fits q k a = go (ltb (q * 2 ^ k) (2 ^ (1074 + 1024))) (ltb→lt (q * 2 ^ k) (2 ^ (1074 + 1024)))
   where
-    go : (b : Bool) → (T b → q * 2 ^ k < 2 ^ (1074 + 1024)) → T (fits binary64 (cond b (odd 54 false q k 1074) (inf false)))
+    go : (b : Bool) → (T b → q * 2 ^ k < 2 ^ (1074 + 1024))
+        → T (fits binary64 (cond b (odd 54 false q k 1074) (inf false)))
     go true h = odd-fits binary64 54 false q k (lt-of-le-of-lt a (lit< tt)) a (h tt)
     go false h = unfold fits in tt
 

@@ -1,11 +1,52 @@
 -- The proof behind `best` of RootBest. A finite f64 has at most 53 digits, so none lies between q * 2 ^ k and
--- (q + 1) * 2 ^ k where q has 53. The root lies between two such neighbours and never half way, and `nearestRoot` is the
--- one on its side of half way. All numbers are in units of the smallest value, 2 ^ -1074. Assumes nothing.
+-- (q + 1) * 2 ^ k where q has 53. The root lies between two such neighbours and never half way, and `nearestRoot` is
+-- the one on its side of half way. All numbers are in units of the smallest value, 2 ^ -1074. Assumes nothing.
 use mathlib.Core.Path.{_≡_, refl, sym, ap, _∙_, subst}
 use mathlib.Core.Logic.{inl, inr}
-use Prim.Native.Nat.{ℕ, zero, suc, _+_, _-_, _*_, _/_, _%_, _^_, _≤_, _<_, compare, Ordering, Ordering·lt, Ordering·eq, Ordering·gt}
+use Prim.Native.Nat.{
+  ℕ,
+  zero,
+  suc,
+  _+_,
+  _-_,
+  _*_,
+  _/_,
+  _%_,
+  _^_,
+  _≤_,
+  _<_,
+  compare,
+  Ordering,
+  Ordering·lt,
+  Ordering·eq,
+  Ordering·gt,
+}
 use native.Mathlib.Omega.{arith}
-use native.Mathlib.Nat.{le-trans, le-of-eq, le-of-lt, le-refl, le-of-suc-le-suc, lt-of-not-le, not-le-of-lt, lt-of-le-of-lt, lt-of-lt-of-le, mul-le-mul, mul-le-mul-left, mul-le-mul-right, mul-mul-mul-comm, pow-suc, mul-lt-mul-of-pos-right, lt-of-mul-lt-mul-right, mul-assoc, mul-one, eq-of-mul-eq-mul-right, eq-zero-or-pos, div-mul-le-self, lt-div-mul-add, le-div-iff-mul-le}
+use native.Mathlib.Nat.{
+  le-trans,
+  le-of-eq,
+  le-of-lt,
+  le-refl,
+  le-of-suc-le-suc,
+  lt-of-not-le,
+  not-le-of-lt,
+  lt-of-le-of-lt,
+  lt-of-lt-of-le,
+  mul-le-mul,
+  mul-le-mul-left,
+  mul-le-mul-right,
+  mul-mul-mul-comm,
+  pow-suc,
+  mul-lt-mul-of-pos-right,
+  lt-of-mul-lt-mul-right,
+  mul-assoc,
+  mul-one,
+  eq-of-mul-eq-mul-right,
+  eq-zero-or-pos,
+  div-mul-le-self,
+  lt-div-mul-add,
+  le-div-iff-mul-le,
+}
 use native.Mathlib.Decide.{decLe}
 use native.Mathlib.Numerals.{add-one}
 use mathlib.Core.Bool.{Bool, true, false, _&&_, true≢false}
@@ -78,7 +119,8 @@ short (fin false (suc m) (negsuc p)) u f h =
 -- so from 2 ^ (52 + k) units on it is a multiple of 2 ^ k
 multiple : (u k : ℕ) → Short u → 2 ^ (52 + k) ≤ u → (v : ℕ) × (u ≡ v * 2 ^ k)
 multiple u k (m, t, e, l) h =
-    let c : m * 2 ^ t < 2 ^ (53 + t) = lt-of-lt-of-le (mul-lt-mul-of-pos-right l (pow-pos t)) (le-of-eq (sym (pow-add 2 53 t))) in
+    let c : m * 2 ^ t < 2 ^ (53 + t) =
+    lt-of-lt-of-le (mul-lt-mul-of-pos-right l (pow-pos t)) (le-of-eq (sym (pow-add 2 53 t))) in
     let a : 2 ^ (52 + k) < 2 ^ (53 + t) = lt-of-le-of-lt h (lt-of-le-of-lt (le-of-eq e) c) in
     let b : 52 + k < 53 + t = lt-of-not-le (λ (g : 53 + t ≤ 52 + k). not-le-of-lt a (pow-mono g)) in
     let d : t ≡ t - k + k = omega arith in
@@ -238,7 +280,11 @@ module _ (n : ℕ) (least : 2 ^ 53 * 2 ^ 53 ≤ n) (most : n < 2 ^ 1586 * 2 ^ 15
   q-down = le-trans (le-of-eq (ap (λ (x : ℕ). x * 2 ^ k) q-is)) (div-mul-le-self w (2 ^ k))
 
   q-up : w + 1 ≤ (q + 1) * 2 ^ k
-  q-up = omega (arith, subst (λ (x : ℕ). w < x * 2 ^ k + 2 ^ k) (sym q-is) (lt-div-mul-add {a = w} {b = 2 ^ k} (pow-pos k)))
+  q-up =
+      omega (
+        arith,
+        subst (λ (x : ℕ). w < x * 2 ^ k + 2 ^ k) (sym q-is) (lt-div-mul-add {a = w} {b = 2 ^ k} (pow-pos k)),
+      )
 
   q-lo : 4503599627370496 ≤ q
   q-lo =

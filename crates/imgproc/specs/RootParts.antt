@@ -6,7 +6,8 @@ use lib.Dec.{ltb}
 
 -- the number that a pattern b below the infinity's stands for, in units of the smallest value
 abbrev pub unitsAt : ℕ → ℕ
-unitsAt b = cond (ltb 0 (b / 4503599627370496)) ((4503599627370496 + b % 4503599627370496) * 2 ^ (b / 4503599627370496 - 1)) b
+unitsAt b =
+    cond (ltb 0 (b / 4503599627370496)) ((4503599627370496 + b % 4503599627370496) * 2 ^ (b / 4503599627370496 - 1)) b
 
 -- the value of pattern b is m × 2 ^ e of the square of the smallest value, and m has 53 digits
 pub record Parted (b m e : ℕ) : Type 0 where

@@ -1,11 +1,11 @@
--- Document 01, part 6: the whole-number threshold of a pixel, by direct summation over its window, and the contract of `sauvola_into`. Definitions only.
+-- Document 01, part 6: the whole-number threshold of a pixel, by direct summation over its window, and the contract of
+-- `sauvola_into`. Definitions only.
 use Prim.Native.Nat.{ℕ, _+_, _-_, _*_, _/_}
 use mathlib.Core.Bool.{Bool, cond}
 use mathlib.Core.List.{List}
 use lib.Dec.{leb}
-use Rattle.image.specs.declared.Geometry.{Geometry}
 use Rattle.image.specs.Answers.{Answer, accepted, refused, Bare, bare}
-use Rattle.image.specs.Plane.{pixel, plane, painted, picture}
+use Rattle.image.specs.Plane.{pixel, plane}
 use Rattle.imgproc.specs.declared.threshold.SauvolaConfig.{SauvolaConfig}
 use Rattle.imgproc.specs.declared.threshold.Binarized.{Binarized}
 use Rattle.imgproc.specs.declared.threshold.Binarized.the-variants.{Done, Refused as Binarized·Refused}
@@ -67,15 +67,10 @@ unfoldable pub binarized : SauvolaConfig → ℕ → ℕ → List ℕ → List �
 unfolding verdict
 binarized config w h p = plane w h (verdict config w h p)
 
--- what `Binarized` says: a bare success, or the number of the refusal
+-- `Binarized` says a bare success, or the number of the refusal
 abbrev pub binarizedAnswer : Binarized → Answer Bare
 binarizedAnswer Done = accepted bare
 binarizedAnswer (Binarized·Refused e) = refused (errorNumber e)
-
--- the destination after an accepted call: its rows hold the verdicts on the source
-abbrev pub binarizedInto : SauvolaConfig → List ℕ → Geometry → List ℕ → Geometry → List ℕ
-binarizedInto config src g dst d =
-    painted (binarized config (g .width) (g .height) (picture src g)) (g .width) (g .height) (d .stride) dst
 
 -- `sauvola_into`: its conditions, a bare success, and the verdicts
 abbrev pub sauvola : Operator SauvolaConfig Bare

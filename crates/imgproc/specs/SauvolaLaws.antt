@@ -1,4 +1,5 @@
--- What makes the definitions of part 6 believable: which pixels a window holds, that no subtraction is cut off, and that the spread is the largest. Assumes nothing.
+-- Laws of part 6: a window holds just the pixels within the radius, no subtraction is cut off, and the spread is the
+-- largest number whose square is at most the variance. Assumes nothing.
 use Prim.Native.Nat.{ℕ, _+_, _-_, _*_, _/_, _≤_, _<_}
 use native.Mathlib.Nat.{mul-pos, mul-le-mul}
 use native.Mathlib.Omega.{arith}

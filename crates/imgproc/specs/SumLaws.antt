@@ -1,7 +1,19 @@
--- Sums of pixels: a fold by + is a sum, sums of boxes side by side, and the mean of squares against the square of the mean. Assumes nothing.
+-- Sums of pixels: a fold by + is a sum, sums of boxes side by side, and the mean of squares against the square of the
+-- mean. Assumes nothing.
 use Prim.Native.Nat.{ℕ, zero, suc, _+_, _-_, _*_, _/_, _≤_, _<_}
 use native.Mathlib.Decide.{decLe}
-use native.Mathlib.Nat.{add-sub-of-le, le-of-lt, lt-of-not-le, le-div-iff-mul-le, mul-le-mul-left, div-mul-le-self, mul-assoc, add-zero, add-suc, mul-suc}
+use native.Mathlib.Nat.{
+  add-sub-of-le,
+  le-of-lt,
+  lt-of-not-le,
+  le-div-iff-mul-le,
+  mul-le-mul-left,
+  div-mul-le-self,
+  mul-assoc,
+  add-zero,
+  add-suc,
+  mul-suc,
+}
 use native.Mathlib.Omega.{arith}
 use native.Mathlib.Numerals.{add-one}
 use mathlib.Core.Path.{_≡_, refl, ap, sym, _∙_, subst}
@@ -63,7 +75,8 @@ module _ (f : ℕ → ℕ → ℕ) where
   box-beside x m (suc y) = omega (arith, box-beside x m y, sum-split (λ i. f i y) x m)
 
 -- the sum of a rectangle by the sums of the four boxes at its corners
-pub corners : (f : ℕ → ℕ → ℕ) (x y m n : ℕ) → boxSum f (x + m) (y + n) + boxSum f x y ≡ boxSum f x (y + n) + boxSum f (x + m) y + rectSum f x y m n
+pub corners : (f : ℕ → ℕ → ℕ) (x y m n : ℕ)
+    → boxSum f (x + m) (y + n) + boxSum f x y ≡ boxSum f x (y + n) + boxSum f (x + m) y + rectSum f x y m n
 corners f x y m n =
     omega (
       arith,
@@ -84,7 +97,8 @@ unfolding foldOver
 fold-sum f a b h = let e : suc (b - a) ≡ b + 1 - a = omega arith in rw e at (fold-from-sum f a (b - a))
 
 -- the sum over a box is the sum of its rectangle
-pub fold-box-sum : (f : ℕ → ℕ → ℕ) (b : Box) → Some b → foldBox _+_ f b ≡ rectSum f (b .left) (b .top) (b .right + 1 - b .left) (b .bottom + 1 - b .top)
+pub fold-box-sum : (f : ℕ → ℕ → ℕ) (b : Box) → Some b
+    → foldBox _+_ f b ≡ rectSum f (b .left) (b .top) (b .right + 1 - b .left) (b .bottom + 1 - b .top)
 unfolding foldBox
 fold-box-sum f b s =
     fold-sum (λ y. foldOver _+_ (λ x. f x y) (b .left) (b .right)) (b .top) (b .bottom) (s .down)
@@ -94,7 +108,8 @@ fold-box-sum f b s =
 pub count-is : (b : Box) → Some b → count b ≡ (b .right + 1 - b .left) * (b .bottom + 1 - b .top)
 count-is b s =
     fold-box-sum (λ x y. 1) b s
-    ∙ sum-ext _ (λ j. b .right + 1 - b .left) (b .bottom + 1 - b .top) (λ j l. sum-const 1 (b .right + 1 - b .left) ∙ omega arith)
+    ∙ sum-ext _ (λ j. b .right + 1 - b .left) (b .bottom + 1 - b .top)
+    (λ j l. sum-const 1 (b .right + 1 - b .left) ∙ omega arith)
     ∙ sum-const (b .right + 1 - b .left) (b .bottom + 1 - b .top)
 
 -- ---- the square of the mean is at most the mean of the squares
@@ -110,7 +125,8 @@ young a b = go (decLe a b)
 
     go : Dec (a ≤ b) → 2 * (a * b) ≤ b * b + a * a
     go (yes l) = subst (λ (z : ℕ). 2 * (a * z) ≤ z * z + a * a) (add-sub-of-le l) (up a (b - a))
-    go (no n) = subst (λ (z : ℕ). 2 * (z * b) ≤ b * b + z * z) (add-sub-of-le (le-of-lt (lt-of-not-le n))) (down b (a - b))
+    go (no n) =
+        subst (λ (z : ℕ). 2 * (z * b) ≤ b * b + z * z) (add-sub-of-le (le-of-lt (lt-of-not-le n))) (down b (a - b))
 
 young-sum : (f : ℕ → ℕ) (a n : ℕ) → 2 * (a * sumTo f n) ≤ sumTo (λ i. f i * f i) n + a * a * n
 unfolding sumTo
@@ -122,8 +138,14 @@ unfolding sumTo
 young-box f a m zero = omega arith
 young-box f a m (suc n) = omega (arith, young-box f a m n, young-sum (λ i. f i n) a m)
 
-pub mean-square : (f : ℕ → ℕ → ℕ) (m n : ℕ) → 0 < m * n → boxSum f m n / (m * n) * (boxSum f m n / (m * n)) ≤ boxSum (squared f) m n / (m * n)
+pub mean-square : (f : ℕ → ℕ → ℕ) (m n : ℕ) → 0 < m * n
+    → boxSum f m n / (m * n) * (boxSum f m n / (m * n)) ≤ boxSum (squared f) m n / (m * n)
 mean-square f m n p =
     let a = boxSum f m n / (m * n) in
     le-div-iff-mul-le {k = m * n} {x = a * a} {y = boxSum (squared f) m n} p .1
-    (omega (arith, young-box f a m n, mul-le-mul-left a (div-mul-le-self (boxSum f m n) (m * n)), mul-assoc a a (m * n)))
+    (omega (
+      arith,
+      young-box f a m n,
+      mul-le-mul-left a (div-mul-le-self (boxSum f m n) (m * n)),
+      mul-assoc a a (m * n),
+    ))

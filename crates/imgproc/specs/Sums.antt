@@ -1,4 +1,5 @@
--- Document 01, parts 5 and 6: sum S, sum of squares Q and count c of the pixels in a box, by direct summation; and the sums that tables hold. Definitions only.
+-- Document 01, parts 5 and 6: sum S, sum of squares Q and count c of the pixels in a box, by direct summation; and the
+-- sums that tables hold. Definitions only.
 use Prim.Native.Nat.{ℕ, zero, suc, _+_, _*_}
 use Rattle.imgproc.specs.Fold.{Box, foldBox}
 

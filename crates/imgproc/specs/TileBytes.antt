@@ -1,4 +1,4 @@
--- Which byte of a tile is meant, and what it is by the tile's numbers. Definitions only.
+-- The two bytes of a tile, from the tile's numbers. Definitions only.
 use Prim.Native.Nat.{ℕ}
 use Rattle.imgproc.specs.declared.grid.config.TileThresholdConfig.{TileThresholdConfig}
 use Rattle.imgproc.specs.declared.grid.tiles.TileNumbers.{TileNumbers}

@@ -1,4 +1,4 @@
--- The five numbers of a tile as the grid's build keeps them in its workspace, and what it makes of them.
+-- A build keeps five numbers of each tile in its workspace, joins them over neighbours and makes bytes of them.
 -- Definitions only.
 use Prim.Native.Nat.{ℕ, zero, suc, _+_, _-_, _*_, _/_, _%_, _≤_, _<_, min, max}
 use mathlib.Core.Path.{_≡_}
@@ -15,6 +15,7 @@ use Rattle.imgproc.specs.Fold.{Box, bit, foldOver}
 use Rattle.imgproc.specs.Reach.{low, high}
 use Rattle.imgproc.specs.Sums.{sum, sumSquares, count}
 use Rattle.imgproc.specs.Grid.{tilesX, tilesY, tileFrom, tileTo, least, most, baseOf, clipped}
+use Rattle.imgproc.specs.GridCalls.{BuildLent, BuildLeft, tilesLent, thresholdsOver, skipsOver}
 
 -- a picture and tile sides that a grid can be built over
 pub record Sized (g : TileThresholdConfig) (w h : ℕ) : Type 0 where
@@ -92,7 +93,8 @@ tileEntry at tx ws i j = entry ws (at + 5 * (j * tx) + 5 * i)
 pub record Gathered (f : ℕ → ℕ → ℕ) (g : TileThresholdConfig) (w h at : ℕ) (ws : List ℕ) : Type 0 where
   pub room : at + 5 * (tilesX g w * tilesY g h) ≤ length ws
   pub bytes : (x y : ℕ) → f x y < 256
-  pub each : (i j : ℕ) → i < tilesX g w → j < tilesY g h → tileEntry at (tilesX g w) ws i j ≡ numbersIn f (tile g w h i j)
+  pub each : (i j : ℕ) → i < tilesX g w → j < tilesY g h
+      → tileEntry at (tilesX g w) ws i j ≡ numbersIn f (tile g w h i j)
 
 -- the five numbers n stored from `at` on, and nothing else
 pub record Stores (at : ℕ) (n : TileNumbers) (before after : List ℕ) : Type 0 where
@@ -101,19 +103,34 @@ pub record Stores (at : ℕ) (n : TileNumbers) (before after : List ℕ) : Type 
   pub before-it : (i : ℕ) → i < at → getD after i 0 ≡ getD before i 0
   pub after-it : (i : ℕ) → at + 5 ≤ i → getD after i 0 ≡ getD before i 0
 
--- what `gather` asks: the picture lies in the slice, the tiles have sides, and their numbers have room from `at` on
-abbrev pub GatherReady : List ℕ → Geometry → TileThresholdConfig → ℕ → List ℕ → Type 0
-GatherReady src s g at ws =
-    Kept (length src) s
-    × Sized g (s .width) (s .height)
-    × (at + 5 * (tilesX g (s .width) * tilesY g (s .height)) ≤ length ws)
+-- `gather` is lent a picture, the settings of a grid, and a workspace that takes the tiles' numbers from `at` on
+pub record GatherLent : Type 0 where
+  pub src : List ℕ
+  pub source : Geometry
+  pub settings : TileThresholdConfig
+  pub workspace : List ℕ
+  pub at : ℕ
 
--- the contract of `gather`: the numbers of every tile from `at` on, and nothing else
-pub record Gathers (src : List ℕ) (s : Geometry) (g : TileThresholdConfig) (at : ℕ) (before after : List ℕ) : Type 0 where
-  pub long : length after ≡ length before
-  pub gathered : Gathered (pixel src (s .stride)) g (s .width) (s .height) at after
-  pub before-it : (i : ℕ) → i < at → getD after i 0 ≡ getD before i 0
-  pub after-it : (i : ℕ) → at + 5 * (tilesX g (s .width) * tilesY g (s .height)) ≤ i → getD after i 0 ≡ getD before i 0
+module _ (lent : GatherLent) where
+  -- where the numbers of its tiles end
+  abbrev pub gatherEnd : ℕ
+  gatherEnd =
+      lent .at + 5 * (tilesX (lent .settings) (lent .source .width) * tilesY (lent .settings) (lent .source .height))
+
+  -- `gather` asks that the picture lies in the slice, that the tiles have sides, and that their numbers have room
+  pub record GatherReady : Type 0 where
+    pub layout : Kept (length (lent .src)) (lent .source)
+    pub sized : Sized (lent .settings) (lent .source .width) (lent .source .height)
+    pub room : gatherEnd ≤ length (lent .workspace)
+
+  -- the contract of `gather`: the numbers of every tile are stored from `at` on, and nothing else
+  pub record Gathers (after : List ℕ) : Type 0 where
+    pub long : length after ≡ length (lent .workspace)
+    pub gathered :
+        Gathered (pixel (lent .src) (lent .source .stride))
+        (lent .settings) (lent .source .width) (lent .source .height) (lent .at) after
+    pub before-it : (i : ℕ) → i < lent .at → getD after i 0 ≡ getD (lent .workspace) i 0
+    pub after-it : (i : ℕ) → gatherEnd ≤ i → getD after i 0 ≡ getD (lent .workspace) i 0
 
 -- numbers of at most as many bytes as a picture has
 pub record Small (n : TileNumbers) : Type 0 where
@@ -132,7 +149,8 @@ pub record Proper (n : TileNumbers) : Type 0 where
 abbrev pub joinedRows : ℕ → ℕ → List ℕ → ℕ → ℕ → ℕ → ℕ → TileNumbers
 joinedRows at tx ws from to first last = joinOver (λ b. joinOver (λ a. tileEntry at tx ws a b) from to) first last
 
--- the entries 0..to of a tile row that starts at `row` lie in the workspace, and entries a..b of them, joined, are small
+-- the entries 0..to of a tile row that starts at `row` lie in the workspace, and entries a..b of them, joined, are
+-- small
 pub record SmallRow (row to : ℕ) (ws : List ℕ) : Type 0 where
   pub room : row + 5 * to + 5 ≤ length ws
   pub each : (a b : ℕ) → a ≤ b → b ≤ to → Small (joinOver (λ i. entry ws (row + 5 * i)) a b)
@@ -155,7 +173,8 @@ joinedAround r tx ty at ws i j = joinedRows at tx ws (low r i) (high r tx i) (lo
 -- the stored threshold of a neighbourhood with the numbers n
 abbrev pub thresholdBy : TileThresholdConfig → TileNumbers → ℕ
 thresholdBy g n =
-    clipped (pos (baseOf (g .method) (n .minimum) (n .maximum) (n .sum) (n .«sum_sq») (n .count)) +ℤ g .«threshold_offset»)
+    clipped
+    (pos (baseOf (g .method) (n .minimum) (n .maximum) (n .sum) (n .«sum_sq») (n .count)) +ℤ g .«threshold_offset»)
 
 -- its stored skip
 abbrev pub skipBy : TileThresholdConfig → TileNumbers → ℕ
@@ -166,3 +185,23 @@ abbrev pub eachTile : (TileNumbers → ℕ) → TileThresholdConfig → ℕ → 
 eachTile by g w h at ws =
     let around = joinedAround (g .«neighborhood_radius») (tilesX g w) (tilesY g h) at ws in
     tabulate (λ t. by (around (t % tilesX g w) (t / tilesX g w))) (tilesX g w * tilesY g h)
+
+-- ---- `fill` of a build
+
+-- the lent buffers hold t tiles
+pub record Rooms (lent : BuildLent) : Type 0 where
+  pub workspace : 5 * tilesLent lent ≤ length (lent .workspace)
+  pub thresholds : tilesLent lent ≤ length (lent .thresholds)
+  pub skips : tilesLent lent ≤ length (lent .skips)
+
+-- `fill` asks for what a build that no condition refuses is lent
+pub record FillReady (lent : BuildLent) : Type 0 where
+  pub layout : Kept (length (lent .src)) (lent .source)
+  pub sized : Sized (lent .settings) (lent .source .width) (lent .source .height)
+  pub rooms : Rooms lent
+
+-- `fill` leaves both buffers as an accepted build leaves them
+pub record Fills (lent : BuildLent) (left : BuildLeft) : Type 0 where
+  pub thresholds-left : left .thresholds ≡ thresholdsOver lent
+  pub skips-left : left .skips ≡ skipsOver lent
+  pub long : length (left .workspace) ≡ length (lent .workspace)

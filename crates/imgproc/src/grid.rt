@@ -1,4 +1,4 @@
-// The tile grid: a local threshold and a low-contrast mark for each tile of a picture, and queries about its tiles.
+// Builds the tile grid: each tile of a picture gets a local threshold and a mark for low contrast.
 pub(crate) mod base;
 pub(crate) mod bytes;
 pub mod config;
@@ -21,19 +21,19 @@ pub use queries::TileThreshold;
 pub use queries::TileThresholdGrid;
 ghost use mathlib.Core.Path.{_≡_};
 ghost use Prim.Native.Nat.{_*_, _≤_, _<_};
-ghost use lib.ListN.{length};
-ghost use Rattle.image.specs.Layout.{Kept, sideLimit};
+ghost use Rattle.image.specs.Layout.{sideLimit};
 ghost use Rattle.imgproc.specs.Refusals.{first, _then_};
-ghost use Rattle.imgproc.specs.Grid.{tilesLimit, thresholds, skips};
-ghost use Rattle.imgproc.specs.Tiles.{Sized};
-ghost use Rattle.imgproc.specs.GridCalls.{usableMethod, gridSettings, tileCount, gridRoom, Rooms, Fills, Builds, builtAnswer};
+ghost use Rattle.imgproc.specs.Grid.{tilesLimit};
+ghost use Rattle.imgproc.specs.GridCalls.{usableMethod, gridSettings, tileCount, gridRoom, Builds, builtAnswer};
+ghost use Rattle.imgproc.specs.Tiles.{FillReady, Fills};
 
-// The tile counts, or the refusal.
+// A build answers with the tile counts, or with its refusal.
 pub enum Built {
     Tiles(usize, usize),
     Refused(ImgProcError),
 }
 
+// Accepts Midrange, and Sauvola with floats that are usable.
 fn usable_method(method: TileThresholdMethod) -> bool
     ensures { λ r. ⌜ r ≡ usableMethod method ⌝ }
 {
@@ -43,7 +43,7 @@ fn usable_method(method: TileThresholdMethod) -> bool
     }
 }
 
-// Whether the settings of a grid are taken.
+// Accepts or refuses the settings of a grid.
 pub(crate) fn check_settings(config: TileThresholdConfig) -> Check
     ensures { λ r. ⌜ r ≡ first (gridSettings config) ⌝ }
 {
@@ -61,7 +61,7 @@ pub(crate) fn check_settings(config: TileThresholdConfig) -> Check
     }
 }
 
-// Whether the lent buffers hold `count` tiles.
+// Accepts lent buffers that hold `count` tiles.
 fn check_room(count: usize, room: usize, threshold_room: usize, skip_room: usize) -> Check
     requires { ⌜ count ≤ tilesLimit ⌝ }
     ensures { λ r. ⌜ r ≡ first (gridRoom count room «threshold_room» «skip_room») ⌝ }
@@ -78,7 +78,7 @@ fn check_room(count: usize, room: usize, threshold_room: usize, skip_room: usize
     Check::Accepted
 }
 
-// Whether settings and buffers are taken, for a picture whose layout is valid.
+// Accepts or refuses settings and buffers, for a picture whose layout is valid.
 fn check_build(
     geometry: Geometry,
     config: TileThresholdConfig,
@@ -86,8 +86,13 @@ fn check_build(
     threshold_room: usize,
     skip_room: usize,
 ) -> Check
-    requires { ⌜ (0 < geometry .width) × (geometry .width ≤ sideLimit) × (0 < geometry .height) × (geometry .height ≤ sideLimit) ⌝ }
-    ensures { λ r. ⌜ r ≡ first (gridSettings config then gridRoom (tileCount config (geometry .width) (geometry .height)) room «threshold_room» «skip_room») ⌝ }
+    requires { ⌜
+        (0 < geometry .width) × (geometry .width ≤ sideLimit)
+        × (0 < geometry .height) × (geometry .height ≤ sideLimit) ⌝ }
+    ensures { λ r. ⌜
+        r ≡ first
+        (gridSettings config then
+        gridRoom (tileCount config (geometry .width) (geometry .height)) room «threshold_room» «skip_room») ⌝ }
 {
     let settings = check_settings(config);
     let Check::Accepted = settings else {
@@ -98,7 +103,7 @@ fn check_build(
     check_room(tiles_x * tiles_y, room, threshold_room, skip_room)
 }
 
-// The numbers of all tiles, and from them the thresholds and the skips.
+// Gathers the numbers of all tiles, and writes the thresholds and the skips from them.
 fn fill(
     src: &[u8],
     geometry: Geometry,
@@ -107,8 +112,34 @@ fn fill(
     thresholds: &mut [u8],
     skips: &mut [u8],
 )
-    requires { ⌜ Kept (length (now src)) geometry × Sized config (geometry .width) (geometry .height) × Rooms (tileCount config (geometry .width) (geometry .height)) (now workspace) (now thresholds) (now skips) ⌝ }
-    ensures { λ _. ⌜ Fills (now (src .entry)) geometry config (now (workspace .entry)) (now (thresholds .entry)) (now (skips .entry)) (now (workspace .exit)) (now (thresholds .exit)) (now (skips .exit)) ⌝ }
+    requires { ⌜
+        FillReady
+        (record {
+          src = now src;
+          source = geometry;
+          settings = config;
+          workspace = now workspace;
+          thresholds = now thresholds;
+          skips = now skips;
+        })
+        ⌝ }
+    ensures { λ _.
+        ⌜
+        Fills
+        (record {
+          src = now (src .entry);
+          source = geometry;
+          settings = config;
+          workspace = now (workspace .entry);
+          thresholds = now (thresholds .entry);
+          skips = now (skips .entry);
+        })
+        (record {
+          workspace = now (workspace .exit);
+          thresholds = now (thresholds .exit);
+          skips = now (skips .exit);
+        })
+        ⌝ }
 {
     gather(src, geometry, config, workspace, 0);
     let width = geometry.width;
@@ -118,7 +149,7 @@ fn fill(
 }
 
 impl TileThresholdGrid {
-    // The threshold and the skip of every tile of a picture, one byte each, in the first bytes of two lent buffers.
+    // Writes the threshold and the skip of every tile of a picture, one byte each, into the first bytes of two buffers.
     pub fn build(
         src: &[u8],
         geometry: Geometry,
@@ -139,7 +170,11 @@ impl TileThresholdGrid {
               skips = now (skips .entry);
             })
             (builtAnswer r)
-            (record { workspace = now (workspace .exit); thresholds = now (thresholds .exit); skips = now (skips .exit) })
+            (record {
+              workspace = now (workspace .exit);
+              thresholds = now (thresholds .exit);
+              skips = now (skips .exit);
+            })
             ⌝ }
     {
         let layout = image::validate_layout(src.len(), geometry);

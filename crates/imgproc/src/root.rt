@@ -1,4 +1,4 @@
-// The square root of an f64, correctly rounded, digit by digit on whole numbers.
+// Takes the square root of an f64, correctly rounded, digit by digit on whole numbers.
 ghost use mathlib.Core.Path.{_≡_};
 ghost use Prim.Native.Nat.{_+_, _*_, _^_, _≤_, _<_};
 ghost use lib.Ieee.{binary64, toBits, ofBits};
@@ -8,13 +8,13 @@ ghost use Rattle.imgproc.specs.RootParts.{Parted};
 // 2^52: the leading digit of a normal value's 53.
 const LEADING: u64 = 0x10_0000_0000_0000;
 
-// 2^62: what the two leading digits of a word count.
+// 2^62: the unit of the two leading digits of a word.
 const QUARTER: u64 = 0x4000_0000_0000_0000;
 
 // The pattern of the infinity.
 const INFINITE: u64 = 0x7ff0_0000_0000_0000;
 
-// The whole root of m * 2^54. A turn takes the next two of its 108 digits, and makes one digit of the root:
+// Finds the whole root of m * 2^54. A turn takes the next two of its 108 digits, and makes one digit of the root:
 // root * root + rest is the number that the digits taken so far make.
 fn digits(m: u64) -> u64
     requires { ⌜ m < 2 ^ 54 ⌝ }
@@ -45,7 +45,7 @@ struct Scaled {
     e: u64,
 }
 
-// The value of a pattern; one below the normal values is doubled until it has 53 digits.
+// Takes the value of a pattern apart, and doubles one below the normal values until it has 53 digits.
 fn parts(b: u64) -> Scaled
     requires { ⌜ (0 < b) × (b < 0x7ff0_0000_0000_0000) ⌝ }
     ensures { λ r. ⌜ Parted b (r .m) (r .e) ⌝ }
@@ -66,8 +66,8 @@ fn parts(b: u64) -> Scaled
     Scaled { m, e }
 }
 
-// The pattern of the root, of the pattern of a finite value above zero. The root has 54 digits, one more than the
-// format keeps, and is never half way between two values: the last digit rounds it.
+// Gives the pattern of the root, from the pattern of a finite value above zero. The root has 54 digits, one more than
+// the format keeps, and is never half way between two values: the last digit rounds it.
 fn root_bits(b: u64) -> u64
     requires { ⌜ (0 < b) × (b < 0x7ff0_0000_0000_0000) ⌝ }
     ensures { λ r. ⌜ r ≡ toBits binary64 (rootOf (ofBits binary64 b)) ⌝ }
@@ -79,7 +79,7 @@ fn root_bits(b: u64) -> u64
     (e / 2 - 26) * LEADING + rounded
 }
 
-// The square root as IEEE 754 has it: of a NaN and of a value below zero a NaN, and of -0.0 -0.0.
+// Takes the square root as IEEE 754 has it: of a NaN and of a value below zero a NaN, and of -0.0 -0.0.
 pub fn root(x: f64) -> f64
     ensures { λ r. ⌜ r ≡ rootOf x ⌝ }
 {

@@ -1,4 +1,4 @@
-// Sauvola's local threshold (Sauvola and Pietikäinen 2000) in whole numbers, from the summed-area tables of the picture.
+// Binarizes by Sauvola's local threshold (Sauvola and Pietikäinen 2000) in whole numbers, from summed-area tables.
 pub(crate) mod tables;
 
 use crate::Check;
@@ -10,13 +10,22 @@ use image::Geometry;
 use image::Layout;
 ghost use mathlib.Core.Path.{_≡_};
 ghost use Prim.Native.Nat.{ℕ, _≤_, _<_};
-ghost use lib.ListN.{length, getD};
-ghost use Rattle.image.specs.Layout.{Kept, sideLimit};
-ghost use Rattle.image.specs.Plane.{picture};
-ghost use Rattle.imgproc.specs.Refusals.{first, sauvolaSettings, settingsAndRoom, tableEntries};
+ghost use lib.ListN.{getD};
+ghost use Rattle.image.specs.Layout.{sideLimit};
+ghost use Rattle.image.specs.Plane.{picture, paintedOn};
+ghost use Rattle.imgproc.specs.Refusals.{first, sauvolaSettings, settingsAndRoom};
 ghost use Rattle.imgproc.specs.WholeRoot.{wholeRoot};
-ghost use Rattle.imgproc.specs.Tables.{InRange, Ready, Sane};
-ghost use Rattle.imgproc.specs.Sauvola.{sauvolaDefaults, binarizedAnswer, spread, threshold, thresholdAtPixel, verdict, binarizedInto, sauvola};
+ghost use Rattle.imgproc.specs.Tables.{InRange, Ready, RowReady, RowsReady, BinarizeReady, Sane};
+ghost use Rattle.imgproc.specs.Sauvola.{
+  sauvolaDefaults,
+  binarizedAnswer,
+  spread,
+  threshold,
+  thresholdAtPixel,
+  verdict,
+  binarized,
+  sauvola,
+};
 ghost use Rattle.imgproc.specs.Calls.{Serves};
 ghost use Rattle.image.specs.Answers.{answerNumber};
 
@@ -29,14 +38,14 @@ pub struct SauvolaConfig {
     pub light_value: u8,
 }
 
-// The answer of a binarization.
+// A binarization answers that it is done, or with its refusal.
 pub enum Binarized {
     Done,
     Refused(ImgProcError),
 }
 
 impl SauvolaConfig {
-    // The Rust's settings.
+    // Gives the settings that the published Rust has by default.
     pub fn default() -> Self
         ensures { λ r. ⌜ r ≡ sauvolaDefaults ⌝ }
     {
@@ -50,7 +59,7 @@ impl SauvolaConfig {
     }
 }
 
-// The number of an answer: 0 where the call is done, else its refusal's.
+// Gives the number of an answer: 0 where the call is done, else its refusal's.
 pub fn binarized_number(answer: Binarized) -> u32
     ensures { λ r. ⌜ r ≡ answerNumber (binarizedAnswer answer) ⌝ }
 {
@@ -60,7 +69,7 @@ pub fn binarized_number(answer: Binarized) -> u32
     }
 }
 
-// The largest whole number whose square is at most `value`, a variance of bytes: the numbers that it may be are halved.
+// Finds the largest whole number whose square is at most `value`, a variance of bytes, by bisection.
 fn integer_sqrt(value: u64) -> u64
     requires { ⌜ value < 65536 ⌝ }
     ensures { λ r. ⌜ (r ≡ wholeRoot value) × (r < 256) ⌝ }
@@ -78,7 +87,7 @@ fn integer_sqrt(value: u64) -> u64
     low
 }
 
-// The spread of a window's pixels about their mean, from their sums.
+// Works out the spread of a window's pixels about their mean, from their sums.
 fn spread(sum: u64, sum_sq: u64, count: u64) -> u64
     requires { ⌜ Sane sum «sum_sq» count ⌝ }
     ensures { λ r. ⌜ (r ≡ spread sum «sum_sq» count) × (r < 256) ⌝ }
@@ -87,7 +96,7 @@ fn spread(sum: u64, sum_sq: u64, count: u64) -> u64
     integer_sqrt(sum_sq / count - mean * mean)
 }
 
-// The threshold of a window, from its sums.
+// Works out the threshold of a window from its sums.
 fn threshold_of(sum: u64, sum_sq: u64, count: u64, config: SauvolaConfig) -> u64
     requires { ⌜ Sane sum «sum_sq» count × InRange config ⌝ }
     ensures { λ r. ⌜ r ≡ threshold config sum «sum_sq» count ⌝ }
@@ -99,7 +108,7 @@ fn threshold_of(sum: u64, sum_sq: u64, count: u64, config: SauvolaConfig) -> u64
     mean * scale / 1000
 }
 
-// The threshold of pixel (x, y), from both tables.
+// Works out the threshold of pixel (x, y) from both tables.
 pub(crate) fn threshold_at_pixel(
     src: &[u8],
     geometry: Geometry,
@@ -109,8 +118,16 @@ pub(crate) fn threshold_at_pixel(
     x: usize,
     y: usize,
 ) -> u64
-    requires { ⌜ Ready (now src) geometry (now workspace) at config × ((x < geometry .width) × (y < geometry .height)) ⌝ }
-    ensures { λ r. ⌜ r ≡ thresholdAtPixel config (geometry .width) (geometry .height) (picture (now (src .entry)) geometry) x y ⌝ }
+    requires { ⌜
+        Ready
+        (record { src = now src; source = geometry; workspace = now workspace; at = at; settings = config })
+        × ((x < geometry .width) × (y < geometry .height))
+        ⌝ }
+    ensures { λ r.
+        ⌜
+        r
+        ≡ thresholdAtPixel config (geometry .width) (geometry .height) (picture (now (src .entry)) geometry) x y
+        ⌝ }
 {
     let wide = geometry.width + 1;
     let squares = at + wide * (geometry.height + 1);
@@ -124,7 +141,7 @@ pub(crate) fn threshold_at_pixel(
     threshold_of(sum, sum_sq, count as u64, config)
 }
 
-// The verdicts on row y of the source: a pixel at or below its threshold is dark.
+// Judges row y of the source: a pixel at or below its threshold is dark.
 fn verdict_row(
     src: &[u8],
     geometry: Geometry,
@@ -134,8 +151,18 @@ fn verdict_row(
     y: usize,
     out: &mut [u8],
 )
-    requires { ⌜ Ready (now src) geometry (now workspace) at config × ((y < geometry .height) × (length (now out) ≡ geometry .width)) ⌝ }
-    ensures { λ _. ⌜ ((x : ℕ) → x < geometry .width → getD (now (out .exit)) x 0 ≡ verdict config (geometry .width) (geometry .height) (picture (now (src .entry)) geometry) x y) ⌝ }
+    requires { ⌜
+        RowReady
+        (record { src = now src; source = geometry; workspace = now workspace; at = at; settings = config })
+        y
+        (now out)
+        ⌝ }
+    ensures { λ _.
+        ⌜
+        ((x : ℕ) → x < geometry .width
+        → getD (now (out .exit)) x 0
+        ≡ verdict config (geometry .width) (geometry .height) (picture (now (src .entry)) geometry) x y)
+        ⌝ }
 {
     let row = image::row(src, geometry, y);
     let mut next = 0;
@@ -151,7 +178,7 @@ fn verdict_row(
     }
 }
 
-// The verdicts on a picture whose tables stand in the workspace, row by row into the destination.
+// Judges a picture whose tables stand in the workspace, and writes the verdicts into the destination's rows.
 pub(crate) fn binarize_rows(
     src: &[u8],
     geometry: Geometry,
@@ -161,9 +188,18 @@ pub(crate) fn binarize_rows(
     dst_geometry: Geometry,
     config: SauvolaConfig,
 )
-    requires { ⌜ Ready (now src) geometry (now workspace) at config ⌝ }
-    requires { ⌜ Kept (length (now dst)) «dst_geometry» × ((«dst_geometry» .width ≡ geometry .width) × («dst_geometry» .height ≡ geometry .height)) ⌝ }
-    ensures { λ _. ⌜ now (dst .exit) ≡ binarizedInto config (now (src .entry)) geometry (now (dst .entry)) «dst_geometry» ⌝ }
+    requires { ⌜
+        RowsReady
+        (record { src = now src; source = geometry; workspace = now workspace; at = at; settings = config })
+        (now dst)
+        «dst_geometry»
+        ⌝ }
+    ensures { λ _.
+        ⌜
+        now (dst .exit)
+        ≡ paintedOn (now (dst .entry)) «dst_geometry»
+        (binarized config (geometry .width) (geometry .height) (picture (now (src .entry)) geometry))
+        ⌝ }
 {
     let mut y = 0;
     while y < geometry.height {
@@ -174,7 +210,7 @@ pub(crate) fn binarize_rows(
     }
 }
 
-// Whether the settings are in range.
+// Accepts settings that are in range.
 pub(crate) fn check_settings(config: SauvolaConfig) -> Check
     ensures { λ r. ⌜ r ≡ first (sauvolaSettings config) ⌝ }
 {
@@ -190,7 +226,7 @@ pub(crate) fn check_settings(config: SauvolaConfig) -> Check
     Check::Accepted
 }
 
-// The settings, and then the room for both tables of a picture.
+// Accepts settings in range, and then a workspace that holds both tables of a picture.
 fn check_room(config: SauvolaConfig, geometry: Geometry, room: usize) -> Check
     requires { ⌜ (geometry .width ≤ sideLimit) × (geometry .height ≤ sideLimit) ⌝ }
     ensures { λ r. ⌜ r ≡ first (settingsAndRoom config geometry room) ⌝ }
@@ -205,7 +241,7 @@ fn check_room(config: SauvolaConfig, geometry: Geometry, room: usize) -> Check
     check
 }
 
-// Both tables, then the verdicts.
+// Builds both tables, then judges every pixel.
 fn binarize(
     src: &[u8],
     geometry: Geometry,
@@ -214,9 +250,23 @@ fn binarize(
     config: SauvolaConfig,
     workspace: &mut [u64],
 )
-    requires { ⌜ Kept (length (now src)) geometry × (Kept (length (now dst)) «dst_geometry» × ((«dst_geometry» .width ≡ geometry .width) × («dst_geometry» .height ≡ geometry .height))) ⌝ }
-    requires { ⌜ InRange config × (tableEntries (geometry .width) (geometry .height) ≤ length (now workspace)) ⌝ }
-    ensures { λ _. ⌜ now (dst .exit) ≡ binarizedInto config (now (src .entry)) geometry (now (dst .entry)) «dst_geometry» ⌝ }
+    requires { ⌜
+        BinarizeReady
+        (record {
+          src = now src;
+          source = geometry;
+          dst = now dst;
+          target = «dst_geometry»;
+          settings = config;
+          workspace = now workspace;
+        })
+        ⌝ }
+    ensures { λ _.
+        ⌜
+        now (dst .exit)
+        ≡ paintedOn (now (dst .entry)) «dst_geometry»
+        (binarized config (geometry .width) (geometry .height) (picture (now (src .entry)) geometry))
+        ⌝ }
 {
     build_tables(src, geometry, workspace, 0);
     binarize_rows(src, geometry, workspace, 0, dst, dst_geometry, config);

@@ -1,6 +1,6 @@
--- The base of a threshold: the laws behind its f64 steps, its count of halves and its clipping. Assumes nothing.
+-- The base of a threshold: the laws behind its f64 steps, its bisection and its clipping. Assumes nothing.
 mod Halves
-mod Halving
+mod Bisection
 mod Clip
 mod Floats
 mod Steps

@@ -1,3 +1,3 @@
--- Questions to a grid: what their checks give, and runs of skipped tiles. Assumes nothing.
+-- Queries about a grid: what their checks give, and runs of skipped tiles. Assumes nothing.
 pub mod Grids
 pub mod Skipped

@@ -23,7 +23,7 @@ use Rattle.imgproc.specs.Sweeps.{TwiceReady, TwiceMorphed}
 use Rattle.imgproc.specs.Division.{FlattenReady, Flattened}
 use Rattle.imgproc.specs.Grid.{tilesX, tilesY, skipOf, skips}
 use Rattle.imgproc.specs.TileBytes.{byteBy}
-use Rattle.imgproc.specs.Tiles.{Sized, Gathers, eachTile}
+use Rattle.imgproc.specs.Tiles.{Sized, GatherLent, GatherReady, Gathers, eachTile}
 use Rattle.imgproc.specs.ReadingSteps.{OpenReady, Opened, MarkReady, Marks, JudgeReady, JudgeRoom}
 use Rattle.imgproc.specs.Tables.{Tables}
 use Rattle.imgproc.proofs.grid.bytes.Tables.{skips-are}
@@ -89,7 +89,15 @@ module _ {g : Geometry} {s : ReadingConfig} {at : ℕ} {bytes u64s : List ℕ} (
     tile-height = ready .tile-height;
   }
 
-  module _ {u64s′ : List ℕ} (gathered : Gathers (take (g .width * g .height) bytes) g (s .grid) 0 u64s u64s′) where
+  -- what `gather` is lent: the opened picture, packed, and the u64 workspace from its start on
+  abbrev gather-lent : GatherLent
+  gather-lent =
+      record { src = take (g .width * g .height) bytes; source = g; settings = s .grid; workspace = u64s; at = 0 }
+
+  pub gather-ready : GatherReady gather-lent
+  gather-ready = record { layout = prefix-kept; sized = sized; room = omega (arith, ready .u64s-fit) }
+
+  module _ {u64s′ : List ℕ} (gathered : Gathers gather-lent u64s′) where
     new : List ℕ
     new = skips (s .grid) (g .width) (g .height) (part 0 (g .width * g .height) bytes)
 
@@ -104,7 +112,7 @@ module _ {g : Geometry} {s : ReadingConfig} {at : ℕ} {bytes u64s : List ℕ} (
     is-new : eachTile (byteBy Skip (s .grid)) (s .grid) (g .width) (g .height) 0 u64s′ ≡ new
     unfolding new
     is-new =
-        skips-are (take (g .width * g .height) bytes) (g .stride) (s .grid) (g .width) (g .height) 0 u64s′ sized (gathered .gathered)
+        skips-are gather-lent gather-ready gathered
         ∙ ap (skips (s .grid) (g .width) (g .height))
         (picture-again (take (g .width * g .height) bytes) g (ready .layout .wide) (ready .tight) prefix-long)
 

@@ -31,7 +31,7 @@ use Rattle.imgproc.specs.ReadingSteps.{Usable, ReadDone}
 use Rattle.imgproc.specs.RefusalLaws.{then-accepted, both-accepted, not-refused, kernel-says, division-says}
 use Rattle.imgproc.proofs.WaysOut.{Comes, Pair, source-same, target-same, past}
 use Rattle.imgproc.proofs.Answers.{in-range}
-use Rattle.imgproc.proofs.grid.Ways.{sides-taken}
+use Rattle.imgproc.proofs.grid.Ways.{sides-accepted}
 
 -- what accepted settings say
 pub says : (s : ReadingConfig) → first (readingSettings s) ≡ Accepted → Usable s
@@ -44,7 +44,7 @@ says s p =
     let c = both-accepted (gridSettings (s .grid)) (sauvolaSettings (s .sauvola)) (b .1) in
     let d = division-says (s .division) (a .0) in
     let k = kernel-says (s .«opening_kernel») (not-refused (badKernel (s .«opening_kernel»)) InvalidKernel (b .0)) in
-    let t = sides-taken (s .grid) (c .0) in
+    let t = sides-accepted (s .grid) (c .0) in
     record {
       element = omega (arith, d .0);
       floor = d .1;

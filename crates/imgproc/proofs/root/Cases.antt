@@ -54,9 +54,17 @@ module _ (b : ℕ) (B : 0 < b) (in-b : b < 9218868437227405312) where
   back = ofBits-toBits binary64 (rootOf (ofBits binary64 b)) (subst (λ (x : Float). T (fits binary64 x)) (sym root-near) (nearest-fits (unitsAt b * 2 ^ 1074)))
 
   pub no-nan : (r : ℕ) → r ≡ toBits binary64 (rootOf (ofBits binary64 b)) → T (not (nanBits binary64 r))
-  no-nan r e = subst (λ (t : Bool). T (not t)) (sym (ap (nanBits binary64) e ∙ nanBits-is binary64 (toBits binary64 (rootOf (ofBits binary64 b))) ∙ ap isNan (back ∙ root-near) ∙ nearest-real (unitsAt b * 2 ^ 1074))) tt
+  no-nan r e =
+      subst (λ (t : Bool). T (not t))
+      (sym
+      (ap (nanBits binary64) e
+      ∙ nanBits-is binary64 (toBits binary64 (rootOf (ofBits binary64 b)))
+      ∙ ap isNan (back ∙ root-near)
+      ∙ nearest-real (unitsAt b * 2 ^ 1074)))
+      tt
 
-  pub reads : (x : Float) → T (fits binary64 x) → toBits binary64 x ≡ b → (r : ℕ) → r ≡ toBits binary64 (rootOf (ofBits binary64 b)) → ofBits binary64 r ≡ rootOf x
+  pub reads : (x : Float) → T (fits binary64 x) → toBits binary64 x ≡ b → (r : ℕ) → r ≡ toBits binary64 (rootOf (ofBits binary64 b))
+      → ofBits binary64 r ≡ rootOf x
   reads x f t r e = ap (ofBits binary64) e ∙ back ∙ ap rootOf (ap (ofBits binary64) (sym t) ∙ ofBits-toBits binary64 x f)
 
 -- ---- the tests
@@ -111,7 +119,10 @@ from-infinite x f h k =
   where
     go : (s : Bool) → (T (not s) → toBits binary64 x < 9223372036854775808)
         → ofFields binary64 s (toBits binary64 x % 9223372036854775808 / 4503599627370496) (toBits binary64 x % 4503599627370496) ≡ x → rootOf x ≡ x
-    go true l e = absurd (true≢false (sym h ∙ ap (lt nought) (sym e) ∙ minus (toBits binary64 x % 9223372036854775808 / 4503599627370496) (toBits binary64 x % 4503599627370496)))
+    go true l e =
+        absurd
+        (true≢false
+        (sym h ∙ ap (lt nought) (sym e) ∙ minus (toBits binary64 x % 9223372036854775808 / 4503599627370496) (toBits binary64 x % 4503599627370496)))
     go false l e =
         let u = l tt in
         let c : toBits binary64 x % 9223372036854775808 / 4503599627370496 ≡ 2047 = omega arith in
@@ -151,7 +162,8 @@ suc-above : (m : ℕ) (e : ℤ) → lt nought (fin false (suc m) e) ≡ true
 unfolding lt
 suc-above m e =
     is-true (ltb (0 * 1 * down e) (suc m * up e * 1))
-    (lt→ltb (0 * 1 * down e) (suc m * up e * 1) (lt-of-le-of-lt (le-of-eq (zero-mul (down e))) (lt-of-lt-of-le (mul-pos (zero-lt-suc m) (up-pos e)) (le-of-eq (sym (mul-one (suc m * up e)))))))
+    (lt→ltb (0 * 1 * down e) (suc m * up e * 1)
+    (lt-of-le-of-lt (le-of-eq (zero-mul (down e))) (lt-of-lt-of-le (mul-pos (zero-lt-suc m) (up-pos e)) (le-of-eq (sym (mul-one (suc m * up e)))))))
 
 pub from-below : (x : Float) → lt nought x ≡ false → eq x nought ≡ false → rootOf x ≡ nan
 unfolding rootOf lt

@@ -1,10 +1,22 @@
--- `nearestRoot` of M * 4 ^ j, from the whole root r of M where r has 54 digits, one more than the format keeps, and M is even: it is (r + 1) / 2 of 2 ^ (j + 1) units.
--- For the last digit of r says on which side of the point half way √M lies, and √M is no such point, as its square would be odd. Assumes nothing.
+-- `nearestRoot` of M * 4 ^ j, from the whole root r of M where r has 54 digits, one more than the format keeps, and M is even: it is (r + 1) / 2 of 2 ^ (j + 1)
+-- units. For the last digit of r says on which side of the point half way √M lies, and √M is no such point, as its square would be odd. Assumes nothing.
 use mathlib.Core.Path.{_≡_, refl, sym, ap, _∙_, subst}
 use mathlib.Core.Logic.{_⊎_, inl, inr}
 use Prim.Native.Nat.{ℕ, zero, suc, _+_, _-_, _*_, _/_, _%_, _^_, _≤_, _<_, compare, Ordering, Ordering·lt, Ordering·eq, Ordering·gt}
 use native.Mathlib.Omega.{arith}
-use native.Mathlib.Nat.{le-antisymm, le-trans, le-of-eq, lt-of-not-le, not-le-of-lt, lt-of-lt-of-le, mul-le-mul-right, mul-lt-mul-of-pos-right, mul-pos, div-mul-le-self, lt-div-mul-add}
+use native.Mathlib.Nat.{
+  le-antisymm,
+  le-trans,
+  le-of-eq,
+  lt-of-not-le,
+  not-le-of-lt,
+  lt-of-lt-of-le,
+  mul-le-mul-right,
+  mul-lt-mul-of-pos-right,
+  mul-pos,
+  div-mul-le-self,
+  lt-div-mul-add,
+}
 use mathlib.Core.Bool.{false}
 use lib.Pow.{pow-pos, pow-add, pow-mono, shr-shr}
 use lib.Ieee.{binary64, size, nearest, units}
@@ -95,9 +107,13 @@ module _ (M N r j : ℕ) (even : M ≡ 2 * N) (root : IsRoot M r) (lo : 2 ^ 53 �
       let q = r / 2 in
       nearestRoot-eq (M * (2 ^ j * 2 ^ j))
       ∙ ap (λ (k : ℕ). from (M * (2 ^ j * 2 ^ j)) w k) k-is
-      ∙ ap (λ (x : ℕ). units binary64 false (nearest x (compare (4 * (M * (2 ^ j * 2 ^ j))) ((2 * x + 1) * 2 ^ (j + 1) * ((2 * x + 1) * 2 ^ (j + 1))))) (j + 1)) half
+      ∙ ap
+      (λ (x : ℕ). units binary64 false (nearest x (compare (4 * (M * (2 ^ j * 2 ^ j))) ((2 * x + 1) * 2 ^ (j + 1) * ((2 * x + 1) * 2 ^ (j + 1))))) (j + 1))
+      half
       ∙ ap (λ (x : ℕ). units binary64 false (nearest q (compare (4 * (M * (2 ^ j * 2 ^ j))) x)) (j + 1)) (sym (square (2 * q + 1)))
       ∙ ap (λ (x : ℕ). units binary64 false x (j + 1))
-      (pick (compare (4 * (M * (2 ^ j * 2 ^ j))) (4 * ((2 * q + 1) * (2 * q + 1) * (2 ^ j * 2 ^ j)))) (4 * (M * (2 ^ j * 2 ^ j))) (4 * ((2 * q + 1) * (2 * q + 1) * (2 ^ j * 2 ^ j))) r
+      (pick
+      (compare (4 * (M * (2 ^ j * 2 ^ j))) (4 * ((2 * q + 1) * (2 * q + 1) * (2 ^ j * 2 ^ j)))) (4 * (M * (2 ^ j * 2 ^ j)))
+      (4 * ((2 * q + 1) * (2 * q + 1) * (2 ^ j * 2 ^ j))) r
       (cmp (4 * (M * (2 ^ j * 2 ^ j))) (4 * ((2 * q + 1) * (2 * q + 1) * (2 ^ j * 2 ^ j))))
       (scaled r M ((2 * q + 1) * (2 * q + 1)) (2 ^ j) (pow-pos j) (side M N r even root)))

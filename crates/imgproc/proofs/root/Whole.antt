@@ -2,7 +2,22 @@
 use mathlib.Core.Path.{_≡_, sym}
 use Prim.Native.Nat.{ℕ, suc, _+_, _*_, _/_, _≤_, _<_}
 use native.Mathlib.Omega.{arith}
-use native.Mathlib.Nat.{le-antisymm, le-trans, le-of-eq, le-of-suc-le-suc, lt-of-not-le, not-le-of-lt, lt-of-lt-of-le, mul-le-mul, le-of-mul-le-mul-right, lt-of-mul-lt-mul-right, mul-pos, mul-mul-mul-comm, div-mul-le-self, lt-div-mul-add}
+use native.Mathlib.Nat.{
+  le-antisymm,
+  le-trans,
+  le-of-eq,
+  le-of-suc-le-suc,
+  lt-of-not-le,
+  not-le-of-lt,
+  lt-of-lt-of-le,
+  mul-le-mul,
+  le-of-mul-le-mul-right,
+  lt-of-mul-lt-mul-right,
+  mul-pos,
+  mul-mul-mul-comm,
+  div-mul-le-self,
+  lt-div-mul-add,
+}
 use Rattle.imgproc.specs.WholeRoot.{IsRoot}
 
 root-le : (n r s : ℕ) → IsRoot n r → IsRoot n s → r ≤ s

@@ -27,7 +27,9 @@ corners-to :
     → boxSum f x1 y1 + boxSum f x0 y0 ≡ boxSum f x0 y1 + boxSum f x1 y0 + rectSum f x0 y0 (x1 - x0) (y1 - y0)
 corners-to f x0 x1 y0 y1 a b =
     subst (λ (u : ℕ). boxSum f u y1 + boxSum f x0 y0 ≡ boxSum f x0 y1 + boxSum f u y0 + rectSum f x0 y0 (x1 - x0) (y1 - y0)) (add-sub-of-le a)
-    (subst (λ (v : ℕ). boxSum f (x0 + (x1 - x0)) v + boxSum f x0 y0 ≡ boxSum f x0 v + boxSum f (x0 + (x1 - x0)) y0 + rectSum f x0 y0 (x1 - x0) (y1 - y0)) (add-sub-of-le b)
+    (subst
+    (λ (v : ℕ). boxSum f (x0 + (x1 - x0)) v + boxSum f x0 y0 ≡ boxSum f x0 v + boxSum f (x0 + (x1 - x0)) y0 + rectSum f x0 y0 (x1 - x0) (y1 - y0))
+    (add-sub-of-le b)
     (corners f x0 y0 (x1 - x0) (y1 - y0)))
 
 -- of a table that stands whole at base
@@ -75,7 +77,8 @@ pub record WindowSums (d : List ℕ) (g : Geometry) (ws : List ℕ) (base : ℕ)
   pub sum-corners : Corners ws base (g .width + 1) x0 y0 x1 y1
   pub square-corners : Corners ws (base + (g .width + 1) * (g .height + 1)) (g .width + 1) x0 y0 x1 y1
   pub count-fits : (x1 - x0) * (y1 - y0) ≤ areaLimit
-  pub sane : (S Q : ℕ) → S ≡ cornerSum ws base (g .width + 1) x0 y0 x1 y1 → Q ≡ cornerSum ws (base + (g .width + 1) * (g .height + 1)) (g .width + 1) x0 y0 x1 y1 → Sane S Q ((x1 - x0) * (y1 - y0))
+  pub sane : (S Q : ℕ) → S ≡ cornerSum ws base (g .width + 1) x0 y0 x1 y1
+      → Q ≡ cornerSum ws (base + (g .width + 1) * (g .height + 1)) (g .width + 1) x0 y0 x1 y1 → Sane S Q ((x1 - x0) * (y1 - y0))
   pub threshold-is :
       (S Q : ℕ)
       → S ≡ cornerSum ws base (g .width + 1) x0 y0 x1 y1
@@ -84,7 +87,8 @@ pub record WindowSums (d : List ℕ) (g : Geometry) (ws : List ℕ) (base : ℕ)
 
 -- the window of pixel (x, y), from x0 to x1 and from y0 to y1, the ends left out
 module _
-    (d : List ℕ) (g : Geometry) (ws : List ℕ) (base : ℕ) (config : SauvolaConfig) (R : Ready d g ws base config) (byte : (i : ℕ) → getD d i 0 ≤ 255)
+    (d : List ℕ) (g : Geometry) (ws : List ℕ) (base : ℕ) (config : SauvolaConfig)
+    (R : Ready (record { src = d; source = g; workspace = ws; at = base; settings = config })) (byte : (i : ℕ) → getD d i 0 ≤ 255)
     (x y x0 x1 y0 y1 : ℕ) (a : x < g .width) (b : y < g .height)
     (p0 : x0 ≡ low (config .radius) x) (p1 : x1 ≡ high (config .radius) (g .width) x + 1)
     (q0 : y0 ≡ low (config .radius) y) (q1 : y1 ≡ high (config .radius) (g .height) y + 1)
@@ -108,13 +112,18 @@ module _
     of-sums : (cornerSum ws base (g .width + 1) x0 y0 x1 y1 ≡ rectSum f x0 y0 (x1 - x0) (y1 - y0)) × Corners ws base (g .width + 1) x0 y0 x1 y1
     unfolding f
     of-sums =
-        facts f ws base (g .width) (g .height) x0 x1 y0 y1 (R .tables .sums) (λ i j l m. le-trans (bytes i j l m) (omega arith)) (omega (arith, R .tables .room))
+        facts f ws base (g .width) (g .height) x0 x1 y0 y1 (R .tables .sums)
+        (λ i j l m. le-trans (bytes i j l m) (omega arith))
+        (omega (arith, R .tables .room))
         (R .layout .small-width) (R .layout .small-height) (omega (arith, spans)) (omega (arith, spans)) (omega (arith, spans)) (omega (arith, spans))
 
-    of-squares : (cornerSum ws (base + (g .width + 1) * (g .height + 1)) (g .width + 1) x0 y0 x1 y1 ≡ rectSum (squared f) x0 y0 (x1 - x0) (y1 - y0)) × Corners ws (base + (g .width + 1) * (g .height + 1)) (g .width + 1) x0 y0 x1 y1
+    of-squares :
+        (cornerSum ws (base + (g .width + 1) * (g .height + 1)) (g .width + 1) x0 y0 x1 y1 ≡ rectSum (squared f) x0 y0 (x1 - x0) (y1 - y0))
+        × Corners ws (base + (g .width + 1) * (g .height + 1)) (g .width + 1) x0 y0 x1 y1
     unfolding f
     of-squares =
-        facts (squared f) ws (base + (g .width + 1) * (g .height + 1)) (g .width) (g .height) x0 x1 y0 y1 (R .tables .squares) squares (omega (arith, R .tables .room))
+        facts (squared f) ws (base + (g .width + 1) * (g .height + 1)) (g .width) (g .height) x0 x1 y0 y1 (R .tables .squares) squares
+        (omega (arith, R .tables .room))
         (R .layout .small-width) (R .layout .small-height) (omega (arith, spans)) (omega (arith, spans)) (omega (arith, spans)) (omega (arith, spans))
 
     small-count : (x1 - x0) * (y1 - y0) ≤ areaLimit
@@ -124,7 +133,8 @@ module _
         (le-trans (sub-le y1 y0) (le-trans (spans .1 .1) (R .layout .small-height)))
 
     -- the sums that `rect_sum` gave
-    module _ (S Q : ℕ) (s : S ≡ cornerSum ws base (g .width + 1) x0 y0 x1 y1) (q : Q ≡ cornerSum ws (base + (g .width + 1) * (g .height + 1)) (g .width + 1) x0 y0 x1 y1) where
+    module _ (S Q : ℕ) (s : S ≡ cornerSum ws base (g .width + 1) x0 y0 x1 y1)
+        (q : Q ≡ cornerSum ws (base + (g .width + 1) * (g .height + 1)) (g .width + 1) x0 y0 x1 y1) where
       S-is : S ≡ rectSum f x0 y0 (x1 - x0) (y1 - y0)
       S-is = s ∙ of-sums .0
 

@@ -32,7 +32,8 @@ pub record FilledSoFar (f : ℕ → ℕ) (w : ℕ) (out₀ out : List ℕ) (n : 
 pub filled-none : (f : ℕ → ℕ) (w : ℕ) (out : List ℕ) → FilledSoFar f w out out 0
 filled-none f w out = record { upto = omega arith; same = refl; each = λ k l. absurd (omega arith) }
 
-pub filled-more : (f : ℕ → ℕ) (w : ℕ) (out₀ out : List ℕ) (n v : ℕ) → length out₀ ≡ w → FilledSoFar f w out₀ out n → n < w → v ≡ f n → FilledSoFar f w out₀ (set out n v) (n + 1)
+pub filled-more : (f : ℕ → ℕ) (w : ℕ) (out₀ out : List ℕ) (n v : ℕ) → length out₀ ≡ w → FilledSoFar f w out₀ out n → n < w → v ≡ f n
+    → FilledSoFar f w out₀ (set out n v) (n + 1)
 filled-more f w out₀ out n v long s l e =
     let same = s .same in
     record {
@@ -44,6 +45,7 @@ filled-more f w out₀ out n v long s l e =
     }
 
 -- pixel (x, y) of the packed verdicts
-pub binarized-pixel : (config : SauvolaConfig) (w h : ℕ) (p : List ℕ) (x y : ℕ) → x < w → y < h → pixel (binarized config w h p) w x y ≡ verdict config w h p x y
+pub binarized-pixel : (config : SauvolaConfig) (w h : ℕ) (p : List ℕ) (x y : ℕ) → x < w → y < h
+    → pixel (binarized config w h p) w x y ≡ verdict config w h p x y
 unfolding binarized
 binarized-pixel config w h p x y X Y = pixel-plane w h (verdict config w h p) x y X Y

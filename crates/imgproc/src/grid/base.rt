@@ -1,4 +1,4 @@
-// The base of a tile's threshold, with each f64 operation rounded once, and the threshold that is stored.
+// Works out the base of a tile's threshold, rounding each f64 operation once, and the threshold that is stored.
 use crate::grid::config::TileThresholdMethod;
 use crate::grid::tiles::TileNumbers;
 ghost use mathlib.Core.Path.{_≡_};
@@ -24,8 +24,8 @@ fn variance(sum: u64, sum_sq: u64, count: u64) -> f64
     if v < 0.0 { 0.0 } else { v }
 }
 
-// How many whole i from 0 to 254 have v >= i + 0.5: v rounded and held to 0..255, and 0 for a NaN. Where one i has it,
-// so has each below, so the first that has it not is found by halving.
+// Counts the whole i from 0 to 254 with v >= i + 0.5: v rounded and clipped to 0..255, and 0 for a NaN. The test is
+// monotone in i, so bisection finds the count.
 fn rounded(v: f64) -> u8
     ensures { λ r. ⌜ r ≡ countTo 255 v ⌝ }
 {
@@ -57,10 +57,12 @@ fn midrange(minimum: u8, maximum: u8) -> u8
     ((minimum as u16 + maximum as u16) / 2) as u8
 }
 
-// The base of the threshold of pixels with the given numbers.
-pub(crate) fn base(method: TileThresholdMethod, numbers: TileNumbers) -> u8
+// Works out the base of a threshold from the numbers of its pixels.
+pub(crate) fn base_of(method: TileThresholdMethod, numbers: TileNumbers) -> u8
     requires { ⌜ Small numbers ⌝ }
-    ensures { λ r. ⌜ r ≡ baseOf method (numbers .minimum) (numbers .maximum) (numbers .sum) (numbers .«sum_sq») (numbers .count) ⌝ }
+    ensures { λ r. ⌜
+        r ≡ baseOf method
+        (numbers .minimum) (numbers .maximum) (numbers .sum) (numbers .«sum_sq») (numbers .count) ⌝ }
 {
     match method {
         TileThresholdMethod::Midrange => midrange(numbers.minimum, numbers.maximum),
@@ -74,7 +76,7 @@ pub(crate) fn base(method: TileThresholdMethod, numbers: TileNumbers) -> u8
     }
 }
 
-// The stored threshold: base + offset, clipped to 0..255.
+// Adds the offset to a base and clips the sum to 0..255: the threshold that is stored.
 pub(crate) fn stored(base: u8, offset: i16) -> u8
     ensures { λ r. ⌜ r ≡ clipped (pos base +ℤ offset) ⌝ }
 {
@@ -88,7 +90,7 @@ pub(crate) fn stored(base: u8, offset: i16) -> u8
     t as u8
 }
 
-// Whether floats are taken: both finite, and the range above zero.
+// Accepts floats that are both finite, with the range above zero.
 pub(crate) fn usable(k: f64, range: f64) -> bool
     ensures { λ r. ⌜ r ≡ usableFloats k range ⌝ }
 {

@@ -1,4 +1,4 @@
-// One byte for each tile, from the numbers that were gathered: the stored thresholds, and the stored skips.
+// Writes one byte for each tile from the numbers that were gathered: the stored thresholds, and the stored skips.
 use crate::grid::base;
 use crate::grid::config::TileThresholdConfig;
 use crate::grid::tiles;
@@ -11,21 +11,22 @@ ghost use Rattle.imgproc.specs.Grid.{tilesX, tilesY};
 ghost use Rattle.imgproc.specs.Tiles.{Sized, Proper, HoldsTiles, eachTile};
 ghost use Rattle.imgproc.specs.TileBytes.{byteBy};
 
-// Which byte of a tile.
+// The two bytes of a tile.
 pub enum TileByte {
     Threshold,
     Skip,
 }
 
-fn threshold(config: TileThresholdConfig, numbers: TileNumbers) -> u8
+fn threshold_byte(config: TileThresholdConfig, numbers: TileNumbers) -> u8
     requires { ⌜ Proper numbers ⌝ }
     ensures { λ r. ⌜ r ≡ byteBy TileByte.Threshold config numbers ⌝ }
 {
     let method = config.method;
-    base::stored(base::base(method, numbers), config.threshold_offset)
+    base::stored(base::base_of(method, numbers), config.threshold_offset)
 }
 
-fn skip(config: TileThresholdConfig, numbers: TileNumbers) -> u8
+// Marks a tile whose contrast is below the floor.
+fn skip_byte(config: TileThresholdConfig, numbers: TileNumbers) -> u8
     requires { ⌜ Proper numbers ⌝ }
     ensures { λ r. ⌜ r ≡ byteBy TileByte.Skip config numbers ⌝ }
 {
@@ -41,12 +42,12 @@ fn tile_byte(which: TileByte, config: TileThresholdConfig, numbers: TileNumbers)
     ensures { λ r. ⌜ r ≡ byteBy which config numbers ⌝ }
 {
     match which {
-        TileByte::Threshold => threshold(config, numbers),
-        TileByte::Skip => skip(config, numbers),
+        TileByte::Threshold => threshold_byte(config, numbers),
+        TileByte::Skip => skip_byte(config, numbers),
     }
 }
 
-// The byte of every tile, from `to` on, tile row after tile row. The numbers stand from `at` on.
+// Writes the byte of every tile from `to` on, tile row after tile row. The numbers stand from `at` on.
 fn write_bytes(
     which: TileByte,
     workspace: &[u64],
@@ -57,8 +58,15 @@ fn write_bytes(
     bytes: &mut [u8],
     to: usize,
 )
-    requires { ⌜ Sized config width height × HoldsTiles config width height at (now workspace) × (to + tilesX config width * tilesY config height ≤ length (now bytes)) ⌝ }
-    ensures { λ _. ⌜ now (bytes .exit) ≡ overwritten to (eachTile (byteBy which config) config width height at (now (workspace .entry))) (now (bytes .entry)) ⌝ }
+    requires { ⌜
+        Sized config width height
+        × HoldsTiles config width height at (now workspace)
+        × (to + tilesX config width * tilesY config height ≤ length (now bytes)) ⌝ }
+    ensures { λ _. ⌜
+        now (bytes .exit)
+        ≡ overwritten to
+        (eachTile (byteBy which config) config width height at (now (workspace .entry)))
+        (now (bytes .entry)) ⌝ }
 {
     let tiles_x = tiles::tiles_along(width, config.tile_width);
     let tiles_y = tiles::tiles_along(height, config.tile_height);
@@ -80,7 +88,7 @@ fn write_bytes(
     }
 }
 
-// The stored thresholds of every tile, from `to` on.
+// Writes the stored threshold of every tile from `to` on.
 pub(crate) fn write_thresholds(
     workspace: &[u64],
     at: usize,
@@ -90,8 +98,15 @@ pub(crate) fn write_thresholds(
     thresholds: &mut [u8],
     to: usize,
 )
-    requires { ⌜ Sized config width height × HoldsTiles config width height at (now workspace) × (to + tilesX config width * tilesY config height ≤ length (now thresholds)) ⌝ }
-    ensures { λ _. ⌜ now (thresholds .exit) ≡ overwritten to (eachTile (byteBy TileByte.Threshold config) config width height at (now (workspace .entry))) (now (thresholds .entry)) ⌝ }
+    requires { ⌜
+        Sized config width height
+        × HoldsTiles config width height at (now workspace)
+        × (to + tilesX config width * tilesY config height ≤ length (now thresholds)) ⌝ }
+    ensures { λ _. ⌜
+        now (thresholds .exit)
+        ≡ overwritten to
+        (eachTile (byteBy TileByte.Threshold config) config width height at (now (workspace .entry)))
+        (now (thresholds .entry)) ⌝ }
 {
     write_bytes(
         TileByte::Threshold,
@@ -105,7 +120,7 @@ pub(crate) fn write_thresholds(
     );
 }
 
-// The stored skips of every tile, from `to` on.
+// Writes the stored skip of every tile from `to` on.
 pub(crate) fn write_skips(
     workspace: &[u64],
     at: usize,
@@ -115,8 +130,15 @@ pub(crate) fn write_skips(
     skips: &mut [u8],
     to: usize,
 )
-    requires { ⌜ Sized config width height × HoldsTiles config width height at (now workspace) × (to + tilesX config width * tilesY config height ≤ length (now skips)) ⌝ }
-    ensures { λ _. ⌜ now (skips .exit) ≡ overwritten to (eachTile (byteBy TileByte.Skip config) config width height at (now (workspace .entry))) (now (skips .entry)) ⌝ }
+    requires { ⌜
+        Sized config width height
+        × HoldsTiles config width height at (now workspace)
+        × (to + tilesX config width * tilesY config height ≤ length (now skips)) ⌝ }
+    ensures { λ _. ⌜
+        now (skips .exit)
+        ≡ overwritten to
+        (eachTile (byteBy TileByte.Skip config) config width height at (now (workspace .entry)))
+        (now (skips .entry)) ⌝ }
 {
     write_bytes(
         TileByte::Skip,

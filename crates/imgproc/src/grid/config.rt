@@ -8,7 +8,7 @@ pub struct SauvolaFloats {
     pub dynamic_range: f64,
 }
 
-// How the base of a tile's threshold is worked out.
+// The two ways to work out the base of a tile's threshold.
 pub enum TileThresholdMethod {
     Midrange,
     Sauvola(SauvolaFloats),

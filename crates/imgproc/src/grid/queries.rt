@@ -1,5 +1,5 @@
-// The sizes of a built grid, and the queries about its tiles. The bytes that a query reads are lent to it; sizes that no
-// build gives are refused.
+// Answers queries about the tiles of a built grid. A query is lent the bytes that it reads, and refuses sizes that no
+// build gives.
 use crate::Check;
 use crate::ImgProcError;
 use crate::grid::tiles::tiles_along;
@@ -35,19 +35,19 @@ pub struct TileThresholdGrid {
     pub tiles_y: usize,
 }
 
-// The stored threshold of a tile, or the refusal.
+// A query answers with the stored threshold of a tile, or with its refusal.
 pub enum TileThreshold {
     Value(u8),
     Refused(ImgProcError),
 }
 
-// Whether tiles are skipped, or the refusal.
+// A query answers whether tiles are skipped, or with its refusal.
 pub enum TileSkip {
     Is(bool),
     Refused(ImgProcError),
 }
 
-// Where the byte of a tile stands.
+// The place of a tile's byte, or the refusal of the query.
 pub(crate) enum TilePlace {
     At(usize),
     Refused(ImgProcError),
@@ -62,7 +62,7 @@ fn bad_side(n: usize) -> bool
     image::MAX_SIDE < n
 }
 
-// Whether a grid that somebody hands in is none.
+// Finds out whether a caller's grid is one that no build gives.
 fn bad_grid(grid: TileThresholdGrid) -> bool
     ensures { λ r. ⌜ r ≡ badGrid grid ⌝ }
 {
@@ -84,7 +84,7 @@ fn bad_grid(grid: TileThresholdGrid) -> bool
     grid.tiles_y != tiles_along(grid.height, grid.tile_height)
 }
 
-// Whether a question to a grid is taken: `inside` says whether its pixel or row lies in the picture.
+// Accepts or refuses a query: `inside` says whether its pixel or row lies in the picture.
 fn check_query(grid: TileThresholdGrid, len: usize, inside: bool) -> Check
     ensures { λ r. ⌜ r ≡ first (queryConditions grid len inside) ⌝ }
 {
@@ -111,7 +111,7 @@ fn holds_pixel(grid: TileThresholdGrid, x: usize, y: usize) -> bool
     }
 }
 
-// Where the byte of the tile of pixel (x, y) stands, in a buffer of `len` bytes.
+// Finds the byte of the tile of pixel (x, y) in a buffer of `len` bytes.
 pub(crate) fn pixel_place(grid: TileThresholdGrid, len: usize, x: usize, y: usize) -> TilePlace
     ensures { λ r. ⌜ r ≡ pixelPlace grid len x y ⌝ }
 {
@@ -122,7 +122,7 @@ pub(crate) fn pixel_place(grid: TileThresholdGrid, len: usize, x: usize, y: usiz
     TilePlace::At(y / grid.tile_height * grid.tiles_x + x / grid.tile_width)
 }
 
-// Where the bytes of the tile row of y start.
+// Finds the first byte of the tile row of y.
 pub(crate) fn row_place(grid: TileThresholdGrid, len: usize, y: usize) -> TilePlace
     ensures { λ r. ⌜ r ≡ rowPlace grid len y ⌝ }
 {
@@ -133,7 +133,8 @@ pub(crate) fn row_place(grid: TileThresholdGrid, len: usize, y: usize) -> TilePl
     TilePlace::At(y / grid.tile_height * grid.tiles_x)
 }
 
-// The refusal of a place.
+// Returns the refusal of a place. Being total, it returns InvalidConfiguration for one that was found; no caller relies
+// on that.
 pub(crate) fn place_refusal(place: TilePlace) -> ImgProcError
     ensures { λ r. ⌜ r ≡ placeRefusal place ⌝ }
 {
@@ -143,7 +144,7 @@ pub(crate) fn place_refusal(place: TilePlace) -> ImgProcError
     }
 }
 
-// Whether the `n` bytes from `at` on are all skipped: each byte but 0 is.
+// Finds out whether the `n` tiles from `at` on are all skipped: each byte but 0 says so.
 pub(crate) fn all_skipped(skips: &[u8], at: usize, n: usize) -> bool
     requires { ⌜ at + n ≤ length (now skips) ⌝ }
     ensures { λ r. ⌜ r ≡ allSkipped (now (skips .entry)) at n ⌝ }
@@ -159,7 +160,7 @@ pub(crate) fn all_skipped(skips: &[u8], at: usize, n: usize) -> bool
 }
 
 impl TileThresholdGrid {
-    // The stored threshold of the tile of pixel (x, y).
+    // Looks up the stored threshold of the tile of pixel (x, y).
     pub fn threshold_at(self, thresholds: &[u8], x: usize, y: usize) -> TileThreshold
         ensures { λ r. ⌜ tileThresholdAnswer r ≡ thresholdAsked self (now (thresholds .entry)) x y ⌝ }
     {
@@ -170,7 +171,7 @@ impl TileThresholdGrid {
         TileThreshold::Value(thresholds[i])
     }
 
-    // Whether the tile of pixel (x, y) is skipped.
+    // Looks up whether the tile of pixel (x, y) is skipped.
     pub fn is_skip(self, skips: &[u8], x: usize, y: usize) -> TileSkip
         ensures { λ r. ⌜ tileSkipAnswer r ≡ skipAsked self (now (skips .entry)) x y ⌝ }
     {
@@ -181,7 +182,7 @@ impl TileThresholdGrid {
         TileSkip::Is(skips[i] != 0)
     }
 
-    // Whether every tile of the tile row of pixel row y is skipped.
+    // Looks up whether every tile of the tile row of pixel row y is skipped.
     pub fn row_all_skip(self, skips: &[u8], y: usize) -> TileSkip
         ensures { λ r. ⌜ tileSkipAnswer r ≡ rowSkipAsked self (now (skips .entry)) y ⌝ }
     {

@@ -1,4 +1,4 @@
-// The five numbers of each tile, gathered into a u64 workspace from an offset on, and joined over a neighbourhood.
+// Gathers the five numbers of each tile into a u64 workspace from an offset on, and joins them over a neighbourhood.
 use crate::grid::config::TileThresholdConfig;
 use crate::reach;
 use image::Geometry;
@@ -10,8 +10,8 @@ ghost use Rattle.image.specs.Layout.{Kept, sideLimit};
 ghost use Rattle.image.specs.Plane.{pixel};
 ghost use Rattle.imgproc.specs.Reach.{ceiling};
 ghost use Rattle.imgproc.specs.Grid.{tilesX, tilesY};
-ghost use Rattle.imgproc.specs.Tiles.{Sized, numbersIn, lineNumbers, tile, joined, joinOver, entry, Stores, GatherReady, Gathers};
-ghost use Rattle.imgproc.specs.Tiles.{SmallRow, SmallGrid, joinedRows, joinedAround};
+ghost use Rattle.imgproc.specs.Tiles.{Sized, numbersIn, lineNumbers, tile, joined, joinOver, entry, Stores};
+ghost use Rattle.imgproc.specs.Tiles.{GatherReady, Gathers, SmallRow, SmallGrid, joinedRows, joinedAround};
 
 // The numbers of a set of pixels.
 pub struct TileNumbers {
@@ -22,7 +22,7 @@ pub struct TileNumbers {
     pub count: u64,
 }
 
-// How many tiles of `side` samples cover `n` samples. Nothing wraps, whatever the side.
+// Counts the tiles of `side` samples that cover `n` samples. Nothing wraps, whatever the side.
 pub(crate) fn tiles_along(n: usize, side: usize) -> usize
     requires { ⌜ 0 < side ⌝ }
     ensures { λ r. ⌜ r ≡ ceiling n side ⌝ }
@@ -43,7 +43,7 @@ fn max_of(a: u8, b: u8) -> u8
     if a < b { b } else { a }
 }
 
-// The numbers of the samples left..right of a row.
+// Works out the numbers of the samples left..right of a row.
 fn row_numbers(row: &[u8], left: usize, right: usize) -> TileNumbers
     requires { ⌜ (left < right) × (right ≤ left + sideLimit) × (right ≤ length (now row)) ⌝ }
     ensures { λ r. ⌜ r ≡ lineNumbers (λ x. getD (now (row .entry)) x 0) left (right - 1) ⌝ }
@@ -70,7 +70,7 @@ fn row_numbers(row: &[u8], left: usize, right: usize) -> TileNumbers
     }
 }
 
-// The numbers of two sets of pixels together.
+// Joins the numbers of two sets of pixels.
 fn join(a: TileNumbers, b: TileNumbers) -> TileNumbers
     requires { ⌜ (a .sum + b .sum < 2 ^ 64) × (a .«sum_sq» + b .«sum_sq» < 2 ^ 64) × (a .count + b .count < 2 ^ 64) ⌝ }
     ensures { λ r. ⌜ r ≡ joined a b ⌝ }
@@ -84,7 +84,7 @@ fn join(a: TileNumbers, b: TileNumbers) -> TileNumbers
     }
 }
 
-// The numbers of the pixels left..right, top..bottom of a picture.
+// Works out the numbers of the pixels left..right, top..bottom of a picture.
 fn box_numbers(
     src: &[u8],
     geometry: Geometry,
@@ -108,7 +108,7 @@ fn box_numbers(
     numbers
 }
 
-// The end of tile i, along an axis of n samples with tiles of `side`.
+// Gives the end of tile i, along an axis of n samples with tiles of `side`.
 fn tile_end(n: usize, side: usize, i: usize) -> usize
     requires { ⌜ i * side < n ⌝ }
     ensures { λ r. ⌜ r ≡ min (i * side + side) n ⌝ }
@@ -117,7 +117,7 @@ fn tile_end(n: usize, side: usize, i: usize) -> usize
     if n - from <= side { n } else { from + side }
 }
 
-// The numbers of tile (i, j).
+// Works out the numbers of tile (i, j).
 fn tile_numbers(
     src: &[u8],
     geometry: Geometry,
@@ -137,7 +137,7 @@ fn tile_numbers(
     box_numbers(src, geometry, left, right, top, bottom)
 }
 
-// The five numbers of a tile, stored from `at` on.
+// Stores the five numbers of a tile from `at` on.
 fn store(workspace: &mut [u64], at: usize, numbers: TileNumbers)
     requires { ⌜ at + 5 ≤ length (now workspace) ⌝ }
     ensures { λ _. ⌜ Stores at numbers (now (workspace .entry)) (now (workspace .exit)) ⌝ }
@@ -149,7 +149,7 @@ fn store(workspace: &mut [u64], at: usize, numbers: TileNumbers)
     workspace[at + 4] = numbers.count;
 }
 
-// The numbers of every tile, once the layout is known to be valid.
+// Gathers the numbers of every tile, once the layout is known to be valid.
 fn gather_tiles(
     src: &[u8],
     geometry: Geometry,
@@ -157,8 +157,22 @@ fn gather_tiles(
     workspace: &mut [u64],
     at: usize,
 )
-    requires { ⌜ GatherReady (now src) geometry config at (now workspace) ⌝ }
-    ensures { λ _. ⌜ Gathers (now (src .entry)) geometry config at (now (workspace .entry)) (now (workspace .exit)) ⌝ }
+    requires { ⌜
+        GatherReady
+        (record { src = now src; source = geometry; settings = config; workspace = now workspace; at = at })
+        ⌝ }
+    ensures { λ _.
+        ⌜
+        Gathers
+        (record {
+          src = now (src .entry);
+          source = geometry;
+          settings = config;
+          workspace = now (workspace .entry);
+          at = at;
+        })
+        (now (workspace .exit))
+        ⌝ }
 {
     let tiles_x = tiles_along(geometry.width, config.tile_width);
     let tiles_y = tiles_along(geometry.height, config.tile_height);
@@ -171,8 +185,8 @@ fn gather_tiles(
     }
 }
 
-// The numbers of every tile of a picture, from `at` on, tile row after tile row. The layout is tested once here, so that
-// the compiler takes the tests of `image::row` out of the loops.
+// Gathers the numbers of every tile of a picture from `at` on, tile row after tile row. It tests the layout once, so
+// that the compiler takes the tests of `image::row` out of the loops.
 pub(crate) fn gather(
     src: &[u8],
     geometry: Geometry,
@@ -180,8 +194,22 @@ pub(crate) fn gather(
     workspace: &mut [u64],
     at: usize,
 )
-    requires { ⌜ GatherReady (now src) geometry config at (now workspace) ⌝ }
-    ensures { λ _. ⌜ Gathers (now (src .entry)) geometry config at (now (workspace .entry)) (now (workspace .exit)) ⌝ }
+    requires { ⌜
+        GatherReady
+        (record { src = now src; source = geometry; settings = config; workspace = now workspace; at = at })
+        ⌝ }
+    ensures { λ _.
+        ⌜
+        Gathers
+        (record {
+          src = now (src .entry);
+          source = geometry;
+          settings = config;
+          workspace = now (workspace .entry);
+          at = at;
+        })
+        (now (workspace .exit))
+        ⌝ }
 {
     let Layout::Valid(_) = image::validate_layout(src.len(), geometry) else {
         return;
@@ -189,7 +217,7 @@ pub(crate) fn gather(
     gather_tiles(src, geometry, config, workspace, at);
 }
 
-// The five numbers that stand from `at` on.
+// Loads the five numbers that stand from `at` on.
 fn load(workspace: &[u64], at: usize) -> TileNumbers
     requires { ⌜ (at + 5 ≤ length (now workspace))
         × (entry (now workspace) at .minimum < 256) × (entry (now workspace) at .maximum < 256) ⌝ }
@@ -204,7 +232,7 @@ fn load(workspace: &[u64], at: usize) -> TileNumbers
     }
 }
 
-// The numbers of the tiles from..=to of a tile row, whose first tile stands at `row`, joined.
+// Joins the numbers of the tiles from..=to of a tile row, whose first tile stands at `row`.
 fn join_row(workspace: &[u64], row: usize, from: usize, to: usize) -> TileNumbers
     requires { ⌜ (from ≤ to) × SmallRow row to (now workspace) ⌝ }
     ensures { λ r. ⌜ r ≡ joinOver (λ i. entry (now (workspace .entry)) (row + 5 * i)) from to ⌝ }
@@ -219,7 +247,7 @@ fn join_row(workspace: &[u64], row: usize, from: usize, to: usize) -> TileNumber
     numbers
 }
 
-// The numbers of the tiles from..=to of the tile rows first..=last, joined.
+// Joins the numbers of the tiles from..=to of the tile rows first..=last.
 fn join_rows(
     workspace: &[u64],
     at: usize,
@@ -242,7 +270,7 @@ fn join_rows(
     numbers
 }
 
-// The numbers of all tiles within the radius of tile (i, j), joined.
+// Joins the numbers of all tiles within the radius of tile (i, j).
 pub(crate) fn join_around(
     workspace: &[u64],
     at: usize,

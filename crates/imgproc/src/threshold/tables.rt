@@ -1,5 +1,5 @@
-// Two summed-area tables (Crow 1984) of a picture in one lent workspace: the sums from `at` on, then the sums of squares,
-// (w + 1)(h + 1) entries each. Entry (x, y) is the sum over the pixels left of x and above y.
+// Builds two summed-area tables (Crow 1984) of a picture in one lent workspace: the sums from `at` on, then the sums of
+// squares, (w + 1)(h + 1) entries each. Entry (x, y) is the sum over the pixels left of x and above y.
 use image::Geometry;
 ghost use mathlib.Core.Path.{_≡_};
 ghost use Prim.Native.Nat.{_+_, _≤_, _<_};
@@ -8,9 +8,11 @@ ghost use Rattle.image.specs.Layout.{Kept};
 ghost use Rattle.imgproc.specs.Refusals.{tableEntries};
 ghost use Rattle.imgproc.specs.Tables.{TableRows, Tables, Corners, cornerSum};
 
-// The row of zeros above the picture, in both tables.
+// Writes the row of zeros above the picture, in both tables.
 fn table_top(src: &[u8], geometry: Geometry, workspace: &mut [u64], at: usize)
-    requires { ⌜ Kept (length (now src)) geometry × (at + tableEntries (geometry .width) (geometry .height) ≤ length (now workspace)) ⌝ }
+    requires { ⌜
+        Kept (length (now src)) geometry
+        × (at + tableEntries (geometry .width) (geometry .height) ≤ length (now workspace)) ⌝ }
     ensures { λ _. ⌜ TableRows (now (src .entry)) geometry at 1 (now (workspace .exit)) ⌝ }
 {
     let wide = geometry.width + 1;
@@ -23,9 +25,11 @@ fn table_top(src: &[u8], geometry: Geometry, workspace: &mut [u64], at: usize)
     }
 }
 
-// The row of both tables below row y of the picture: the entry above, and the row's sums so far.
+// Writes the row of both tables below row y of the picture: the entry above, and the row's sums so far.
 fn table_row(src: &[u8], geometry: Geometry, y: usize, workspace: &mut [u64], at: usize)
-    requires { ⌜ Kept (length (now src)) geometry × ((y < geometry .height) × TableRows (now src) geometry at (y + 1) (now workspace)) ⌝ }
+    requires { ⌜
+        Kept (length (now src)) geometry
+        × ((y < geometry .height) × TableRows (now src) geometry at (y + 1) (now workspace)) ⌝ }
     ensures { λ _. ⌜ TableRows (now (src .entry)) geometry at (y + 2) (now (workspace .exit)) ⌝ }
 {
     let wide = geometry.width + 1;
@@ -50,9 +54,11 @@ fn table_row(src: &[u8], geometry: Geometry, y: usize, workspace: &mut [u64], at
     }
 }
 
-// Both tables of a picture that its slice holds, from `at` on.
+// Builds both tables of a picture that its slice holds, from `at` on.
 pub(crate) fn build_tables(src: &[u8], geometry: Geometry, workspace: &mut [u64], at: usize)
-    requires { ⌜ Kept (length (now src)) geometry × (at + tableEntries (geometry .width) (geometry .height) ≤ length (now workspace)) ⌝ }
+    requires { ⌜
+        Kept (length (now src)) geometry
+        × (at + tableEntries (geometry .width) (geometry .height) ≤ length (now workspace)) ⌝ }
     ensures { λ _. ⌜ Tables (now (src .entry)) geometry at (now (workspace .exit)) ⌝ }
 {
     table_top(src, geometry, workspace, at);
@@ -63,7 +69,7 @@ pub(crate) fn build_tables(src: &[u8], geometry: Geometry, workspace: &mut [u64]
     }
 }
 
-// The sum over a rectangle by the four corners of the table that starts at `base`.
+// Sums a rectangle by the four corners of the table that starts at `base`.
 pub(crate) fn rect_sum(
     workspace: &[u64],
     base: usize,

@@ -40,7 +40,8 @@ pub all : (k r : Float) → lt k (inf false) ≡ true → lt (inf true) k ≡ tr
 all k r h l g = range-ok r g ∙ ap (λ (t : Bool). t && finite r && lt (fin false 0 (pos 0)) r) (sym (both-ends k h l))
 
 pub no-range : (k r : Float) → lt r (inf false) ≡ false → false ≡ usableFloats k r
-no-range k r g = ap (λ (t : Bool). t && lt (fin false 0 (pos 0)) r) (no-right (finite k)) ∙ ap (λ (t : Bool). finite k && t && lt (fin false 0 (pos 0)) r) (sym (above r g))
+no-range k r g =
+    ap (λ (t : Bool). t && lt (fin false 0 (pos 0)) r) (no-right (finite k)) ∙ ap (λ (t : Bool). finite k && t && lt (fin false 0 (pos 0)) r) (sym (above r g))
 
 pub no-low : (k r : Float) → lt (inf true) k ≡ false → false ≡ usableFloats k r
 no-low k r h = ap (λ (t : Bool). t && finite r && lt (fin false 0 (pos 0)) r) (sym (below k h))

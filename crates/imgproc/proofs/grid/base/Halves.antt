@@ -39,5 +39,7 @@ unfolding right
 exact i h =
     let t = at 255 i all h in
     sym (ofBits-toBits binary64 (summed i) (add-fits binary64 (whole i) (fin false 1 (negsuc 0))))
-    ∙ ap (ofBits binary64) (eqb→eq (toBits binary64 (summed i)) (toBits binary64 (halfPast i)) (and-l (eqb (toBits binary64 (summed i)) (toBits binary64 (halfPast i))) (fits binary64 (halfPast i)) t))
+    ∙ ap (ofBits binary64)
+    (eqb→eq (toBits binary64 (summed i)) (toBits binary64 (halfPast i))
+    (and-l (eqb (toBits binary64 (summed i)) (toBits binary64 (halfPast i))) (fits binary64 (halfPast i)) t))
     ∙ ofBits-toBits binary64 (halfPast i) (and-r (eqb (toBits binary64 (summed i)) (toBits binary64 (halfPast i))) (fits binary64 (halfPast i)) t)

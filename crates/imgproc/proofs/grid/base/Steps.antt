@@ -20,7 +20,9 @@ pub sauvola-is : (s q c : ℕ) (k range m v r : Float) → m ≡ meanOf s c → 
 unfolding sauvolaOf
 sauvola-is s q c k range m v r e f g =
     ap (λ (x : Float). mul binary64 x (add binary64 (fin false 1 (pos 0)) (mul binary64 k (sub binary64 (div binary64 r range) (fin false 1 (pos 0)))))) e
-    ∙ ap (λ (x : Float). mul binary64 (meanOf s c) (add binary64 (fin false 1 (pos 0)) (mul binary64 k (sub binary64 (div binary64 x range) (fin false 1 (pos 0)))))) (g ∙ ap rootOf f)
+    ∙ ap
+    (λ (x : Float). mul binary64 (meanOf s c) (add binary64 (fin false 1 (pos 0)) (mul binary64 k (sub binary64 (div binary64 x range) (fin false 1 (pos 0))))))
+    (g ∙ ap rootOf f)
 
 -- the base by its method
 module _ {method : TileThresholdMethod} {r : ℕ} (n : TileNumbers) where
@@ -28,6 +30,7 @@ module _ {method : TileThresholdMethod} {r : ℕ} (n : TileNumbers) where
   unfolding baseOf
   midrange-is e f = f ∙ ap (λ (m : TileThresholdMethod). baseOf m (n .minimum) (n .maximum) (n .sum) (n .«sum_sq») (n .count)) (sym e)
 
-  pub floats-are : {s : SauvolaFloats} → method ≡ Sauvola s → r ≡ countTo 255 (sauvolaOf (n .sum) (n .«sum_sq») (n .count) (s .k) (s .«dynamic_range»)) → r ≡ baseOf method (n .minimum) (n .maximum) (n .sum) (n .«sum_sq») (n .count)
+  pub floats-are : {s : SauvolaFloats} → method ≡ Sauvola s → r ≡ countTo 255 (sauvolaOf (n .sum) (n .«sum_sq») (n .count) (s .k) (s .«dynamic_range»))
+      → r ≡ baseOf method (n .minimum) (n .maximum) (n .sum) (n .«sum_sq») (n .count)
   unfolding baseOf
   floats-are e f = f ∙ ap (λ (m : TileThresholdMethod). baseOf m (n .minimum) (n .maximum) (n .sum) (n .«sum_sq») (n .count)) (sym e)

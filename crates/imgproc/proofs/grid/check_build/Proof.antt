@@ -6,7 +6,7 @@ use Rattle.imgproc.specs.GridCalls.{gridSettings, tileCount, gridRoom}
 use Rattle.imgproc.specs.Refusals.{first}
 use Rattle.imgproc.specs.Tiles.{Sized}
 use Rattle.imgproc.specs.RefusalLaws.{then-accepted, then-refused}
-use Rattle.imgproc.proofs.grid.Ways.{sides-taken}
+use Rattle.imgproc.proofs.grid.Ways.{sides-accepted}
 use Rattle.imgproc.proofs.grid.tiles.Counts.{few, total}
 use borrow.Author.Needs.{needs}
 use Rattle.imgproc.proofs.grid.check_build.Statement.{statement}
@@ -26,13 +26,17 @@ returns c =
     let s = c .before .before in
     let a = s .before .args in
     c .enum-told2 .given .1
-    ∙ sym (then-refused (gridSettings (a .config)) (gridRoom (tileCount (a .config) (a .geometry .width) (a .geometry .height)) (a .room) (a .threshold-room) (a .skip-room)) (sym (s .check-settings .ensures) ∙ c .enum-told2 .given .1))
+    ∙ sym
+    (then-refused (gridSettings (a .config))
+    (gridRoom (tileCount (a .config) (a .geometry .width) (a .geometry .height)) (a .room) (a .threshold-room) (a .skip-room))
+    (sym (s .check-settings .ensures) ∙ c .enum-told2 .given .1))
 
--- settings that were taken
-sized : (c : tie.After-enum-told) → Sized (c .before .before .before .args .config) (c .before .before .before .args .geometry .width) (c .before .before .before .args .geometry .height)
+-- settings that were accepted
+sized : (c : tie.After-enum-told)
+    → Sized (c .before .before .before .args .config) (c .before .before .before .args .geometry .width) (c .before .before .before .args .geometry .height)
 sized c =
     let s = c .before .before .before in
-    let d = sides-taken (s .args .config) (sym (c .before .before .check-settings .ensures) ∙ c .enum-told .given .1) in
+    let d = sides-accepted (s .args .config) (sym (c .before .before .check-settings .ensures) ∙ c .enum-told .given .1) in
     record { wide = s .pre .0; high = s .pre .2; small-width = s .pre .1; small-height = s .pre .3; tile-width = d .0; tile-height = d .1 }
 
 tiles-along-requires : tie.Need-tiles-along-requires
@@ -53,8 +57,13 @@ returns-2 c =
     let s = k .before .before in
     let a = s .before .args in
     c .check-room .ensures
-    ∙ ap (λ (n : ℕ). first (gridRoom n (a .room) (a .threshold-room) (a .skip-room))) (total (sized k) (c .before .before .tiles-along .ensures) (c .before .tiles-along2 .ensures))
-    ∙ sym (then-accepted (gridSettings (a .config)) (gridRoom (tileCount (a .config) (a .geometry .width) (a .geometry .height)) (a .room) (a .threshold-room) (a .skip-room)) (sym (s .check-settings .ensures) ∙ k .enum-told .given .1))
+    ∙ ap
+    (λ (n : ℕ). first (gridRoom n (a .room) (a .threshold-room) (a .skip-room)))
+    (total (sized k) (c .before .before .tiles-along .ensures) (c .before .tiles-along2 .ensures))
+    ∙ sym
+    (then-accepted (gridSettings (a .config))
+    (gridRoom (tileCount (a .config) (a .geometry .width) (a .geometry .height)) (a .room) (a .threshold-room) (a .skip-room))
+    (sym (s .check-settings .ensures) ∙ k .enum-told .given .1))
 
 pub check-build-spec : {M : Type 1} → statement M
 check-build-spec =

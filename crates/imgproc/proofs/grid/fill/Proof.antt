@@ -4,13 +4,23 @@ use mathlib.Core.List.{List}
 use Prim.Native.Nat.{ℕ}
 use native.Mathlib.Omega.{arith}
 use Rattle.image.specs.Plane.{overwritten}
+use Rattle.imgproc.specs.Tiles.{GatherLent, GatherReady}
 use Rattle.imgproc.proofs.grid.bytes.Tables.{thresholds-are, skips-are}
 use borrow.Author.Needs.{needs}
 use Rattle.imgproc.proofs.grid.fill.Statement.{statement}
 use Rattle.imgproc.proofs.grid.fill.Tie as tie
 
+-- what `gather` is lent
+abbrev lent : tie.Start → GatherLent
+lent s =
+    let a = s .args in
+    record { src = a .src .now; source = a .geometry; settings = a .config; workspace = a .workspace .now; at = 0 }
+
+ready : (s : tie.Start) → GatherReady (lent s)
+ready s = record { layout = s .pre .layout; sized = s .pre .sized; room = omega (arith, s .pre .rooms .workspace) }
+
 gather-requires : tie.Need-gather-requires
-gather-requires c κs = search needs
+gather-requires c κs = ready (c .before .before .before .before .before)
 
 write-thresholds-requires : tie.Need-write-thresholds-requires
 write-thresholds-requires c κs = search needs
@@ -18,7 +28,8 @@ write-thresholds-requires c κs = search needs
 write-skips-requires : tie.Need-write-skips-requires
 write-skips-requires c κs =
     let g = c .before .before .before .before .before .before .before .before .before in
-    let s = g .before .before .before .before .before .before in (s .pre .1, record { picture = _; gathered = g .gather .ensures .gathered }, omega (arith, s .pre .2 .skips))
+    let s = g .before .before .before .before .before .before in
+    (s .pre .sized, record { picture = _; gathered = g .gather .ensures .gathered }, omega (arith, s .pre .rooms .skips))
 
 same-length : tie.Need-same-length
 same-length c = search needs
@@ -34,10 +45,15 @@ returns c =
     let g = c .before .before .before .before .before .before .before .before .before .before .before .before in
     let s = g .before .before .before .before .before .before in
     let a = s .args in
-    let G = g .gather .ensures .gathered in
     record {
-      thresholds-left = c .before .before .before .before .before .before .before .write-thresholds .ensures ∙ ap (λ (p : List ℕ). overwritten 0 p (a .thresholds .now)) (thresholds-are (a .src .now) (a .geometry .stride) (a .config) (a .geometry .width) (a .geometry .height) 0 _ (s .pre .1) G);
-      skips-left = c .before .before .write-skips .ensures ∙ ap (λ (p : List ℕ). overwritten 0 p (a .skips .now)) (skips-are (a .src .now) (a .geometry .stride) (a .config) (a .geometry .width) (a .geometry .height) 0 _ (s .pre .1) G);
+      thresholds-left =
+          c .before .before .before .before .before .before .before .write-thresholds .ensures
+          ∙ ap (λ (p : List ℕ). overwritten 0 p (a .thresholds .now))
+          (thresholds-are (lent s) (ready s) (g .gather .ensures));
+      skips-left =
+          c .before .before .write-skips .ensures
+          ∙ ap (λ (p : List ℕ). overwritten 0 p (a .skips .now))
+          (skips-are (lent s) (ready s) (g .gather .ensures));
       long = g .gather .ensures .long;
     }
 

@@ -1,4 +1,4 @@
--- What is known of a grid whose check was then-accepted, and where its tiles lie. Assumes nothing.
+-- A grid that a query accepted: its sides, its tile counts, and where its tiles lie. Assumes nothing.
 use mathlib.Core.Path.{_≡_, refl, sym, ap, _∙_}
 use mathlib.Core.Bool.{Bool, true, false, not, _&&_}
 use Prim.Native.Nat.{ℕ, suc, _+_, _-_, _*_, _/_, _≤_, _<_}
@@ -19,7 +19,19 @@ use Rattle.imgproc.specs.declared.grid.queries.TilePlace.the-variants.{A
 use Rattle.imgproc.specs.Reach.{ceiling}
 use Rattle.imgproc.specs.Grid.{tilesLimit}
 use Rattle.imgproc.specs.GridLaws.{tiles-small}
-use Rattle.imgproc.specs.GridCalls.{badSide, badGrid, queryConditions, pixelConditions, rowConditions, placeBy, tileOf, tileRowOf, pixelPlace, rowPlace, placeRefusal}
+use Rattle.imgproc.specs.GridCalls.{
+  badSide,
+  badGrid,
+  queryConditions,
+  pixelConditions,
+  rowConditions,
+  placeBy,
+  tileOf,
+  tileRowOf,
+  pixelPlace,
+  rowPlace,
+  placeRefusal,
+}
 use Rattle.imgproc.specs.Refusals.{errorNumber, first, _then_, refusedIf, answerBy}
 use Rattle.image.specs.Answers.{accepted, refused}
 use Rattle.imgproc.specs.RefusalLaws.{both-accepted, not-refused}
@@ -74,7 +86,7 @@ module _ {q : TileThresholdGrid} (s : Sound q) where
   pub tile-column : (x : ℕ) → x < q .width → x / q .«tile_width» < q .«tiles_x»
   tile-column x X = omega (arith, s .across, tile-within (q .width) (q .«tile_width») x (s .tile-width) X)
 
--- what a question that was taken knows
+-- an accepted query has a sound grid, a buffer that holds its tiles, and a place inside the picture
 pub record Asked (q : TileThresholdGrid) (len : ℕ) (inside : Bool) : Type 0 where
   pub grid : Sound q
   pub room : q .«tiles_x» * q .«tiles_y» ≤ len
@@ -82,11 +94,14 @@ pub record Asked (q : TileThresholdGrid) (len : ℕ) (inside : Bool) : Type 0 wh
 
 pub asked : (q : TileThresholdGrid) (len : ℕ) (inside : Bool) → first (queryConditions q len inside) ≡ Accepted → Asked q len inside
 asked q len inside e =
-    let a = both-accepted (refusedIf (badGrid q) InvalidConfiguration) (refusedIf (ltb len (q .«tiles_x» * q .«tiles_y»)) GridBufferTooSmall then refusedIf (not inside) (Image OutsidePicture)) e in
-    let b = both-accepted (refusedIf (ltb len (q .«tiles_x» * q .«tiles_y»)) GridBufferTooSmall) (refusedIf (not inside) (Image OutsidePicture)) (a .1) in
+    let short = ltb len (q .«tiles_x» * q .«tiles_y») in
+    let buffer = refusedIf short GridBufferTooSmall in
+    let place = refusedIf (not inside) (Image OutsidePicture) in
+    let a = both-accepted (refusedIf (badGrid q) InvalidConfiguration) (buffer then place) e in
+    let b = both-accepted buffer place (a .1) in
     record {
       grid = sound q (not-refused (badGrid q) InvalidConfiguration (a .0));
-      room = ltb-false _ _ (not-refused (ltb len (q .«tiles_x» * q .«tiles_y»)) GridBufferTooSmall (b .0));
+      room = ltb-false _ _ (not-refused short GridBufferTooSmall (b .0));
       there = held inside (not-refused (not inside) (Image OutsidePicture) (b .1));
     }
 
@@ -120,7 +135,7 @@ row-within q len y i e =
     let p = placed (first (rowConditions q len y)) (tileRowOf q y) i e in
     let a = asked q len (ltb y (q .height)) (p .0) in omega (arith, p .1, a .room, tile-row (a .grid) y (ltb-true _ _ (a .there)))
 
--- the ways out of a question for a place
+-- the ways out of a query for a place
 module _ {c k : Check} (n : ℕ) (p : k ≡ c) where
   pub place-refused : {e : ImgProcError} → k ≡ Refused e → TilePlace·Refused e ≡ placeBy c n
   place-refused q = ap (λ (x : Check). placeBy x n) (sym q ∙ p)

@@ -34,6 +34,7 @@ broken d at (suc n) i h z =
     ⊎-elim
     (λ (e : i ≡ n).
     let k : getD d (at + n) 0 ≡ 0 = ap (λ (j : ℕ). getD d (at + j) 0) (sym e) ∙ z in
-    let s : skipped d (at + n) ≡ false = simp (eq-eqb (getD d (at + n) 0) 0 k) in sym (ap (λ (q : Bool). allSkipped d at n && q) s ∙ no-right (allSkipped d at n)))
+    let s : skipped d (at + n) ≡ false = simp (eq-eqb (getD d (at + n) 0) 0 k) in
+    sym (ap (λ (q : Bool). allSkipped d at n && q) s ∙ no-right (allSkipped d at n)))
     (λ (l : i < n). sym (no-left (allSkipped d at n) (skipped d (at + n)) (sym (broken d at n i l z))))
     (eq-or-lt-of-le {n = i} {m = n} (omega arith))

@@ -32,7 +32,8 @@ module _ (op : ℕ → ℕ → ℕ) where
   unfolding foldOver
   fold-same f g a b t e = from-same f g a (b - a) (λ i p q. e i p (omega arith))
 
-  pub box-same : (f g : ℕ → ℕ → ℕ) (b : Box) → b .left ≤ b .right → b .top ≤ b .bottom → ((x y : ℕ) → x ≤ b .right → y ≤ b .bottom → f x y ≡ g x y) → foldBox op f b ≡ foldBox op g b
+  pub box-same : (f g : ℕ → ℕ → ℕ) (b : Box) → b .left ≤ b .right → b .top ≤ b .bottom → ((x y : ℕ) → x ≤ b .right → y ≤ b .bottom → f x y ≡ g x y)
+      → foldBox op f b ≡ foldBox op g b
   unfolding foldBox
   box-same f g b s t e =
       fold-same _ _ (b .top) (b .bottom) t (λ y p q. fold-same (λ x. f x y) (λ x. g x y) (b .left) (b .right) s (λ x u v. e x y v q))
@@ -72,11 +73,15 @@ module _ (op : ℕ → ℕ → ℕ) (j : Joining op) where
       ∙ four (foldFrom op f a n) (foldFrom op g a n) (f (a + suc n)) (g (a + suc n))
 
   -- two boxes, one below the other, and one beside the other
-  pub box-below : (f : ℕ → ℕ → ℕ) (l r t m b : ℕ) → t ≤ m → m < b → foldBox op f (record { left = l; right = r; top = t; bottom = b }) ≡ op (foldBox op f (record { left = l; right = r; top = t; bottom = m })) (foldBox op f (record { left = l; right = r; top = m + 1; bottom = b }))
+  pub box-below : (f : ℕ → ℕ → ℕ) (l r t m b : ℕ) → t ≤ m → m < b
+      → foldBox op f (record { left = l; right = r; top = t; bottom = b })
+      ≡ op (foldBox op f (record { left = l; right = r; top = t; bottom = m })) (foldBox op f (record { left = l; right = r; top = m + 1; bottom = b }))
   unfolding foldBox
   box-below f l r t m b p q = fold-split (λ y. foldOver op (λ x. f x y) l r) t m b p q
 
-  pub box-beside : (f : ℕ → ℕ → ℕ) (l m r t b : ℕ) → l ≤ m → m < r → t ≤ b → foldBox op f (record { left = l; right = r; top = t; bottom = b }) ≡ op (foldBox op f (record { left = l; right = m; top = t; bottom = b })) (foldBox op f (record { left = m + 1; right = r; top = t; bottom = b }))
+  pub box-beside : (f : ℕ → ℕ → ℕ) (l m r t b : ℕ) → l ≤ m → m < r → t ≤ b
+      → foldBox op f (record { left = l; right = r; top = t; bottom = b })
+      ≡ op (foldBox op f (record { left = l; right = m; top = t; bottom = b })) (foldBox op f (record { left = m + 1; right = r; top = t; bottom = b }))
   unfolding foldBox foldOver
   box-beside f l m r t b p q s =
       from-same op _ (λ y. op (foldOver op (λ x. f x y) l m) (foldOver op (λ x. f x y) (m + 1) r)) t (b - t) (λ y u v. fold-split (λ x. f x y) l m r p q)

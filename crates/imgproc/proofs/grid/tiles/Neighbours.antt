@@ -35,7 +35,12 @@ module _ (n t : ℕ) (T : 0 < t) where
 module _ (f : ℕ → ℕ → ℕ) (g : TileThresholdConfig) (w h at : ℕ) (ws : List ℕ) (z : Sized g w h) (G : Gathered f g w h at ws) where
   -- the pixels of the tiles a..i of the tile rows b..j
   abbrev tilesBox : ℕ → ℕ → ℕ → ℕ → Box
-  tilesBox a i b j = record { left = tileFrom (g .«tile_width») a; right = tileTo (g .«tile_width») w i; top = tileFrom (g .«tile_height») b; bottom = tileTo (g .«tile_height») h j }
+  tilesBox a i b j = record {
+    left = tileFrom (g .«tile_width») a;
+    right = tileTo (g .«tile_width») w i;
+    top = tileFrom (g .«tile_height») b;
+    bottom = tileTo (g .«tile_height») h j;
+  }
 
   row-from : (a k j : ℕ) → a + k < tilesX g w → j < tilesY g h → joinFrom (λ i. tileEntry at (tilesX g w) ws i j) a k ≡ numbersIn f (tilesBox a (a + k) j j)
   unfolding joinFrom
@@ -48,7 +53,14 @@ module _ (f : ℕ → ℕ → ℕ) (g : TileThresholdConfig) (w h at : ℕ) (ws 
       ap₂ joined (row-from a k j (omega arith) J)
       (ap (λ (i : ℕ). tileEntry at (tilesX g w) ws i j) e
       ∙ G .each (suc (a + k)) j S J
-      ∙ ap (λ (l : ℕ). numbersIn f (record { left = l; right = tileTo (g .«tile_width») w (suc (a + k)); top = tileFrom (g .«tile_height») j; bottom = tileTo (g .«tile_height») h j })) (sym (tiles-meet w (g .«tile_width») (z .tile-width) (a + k) S)))
+      ∙ ap
+      (λ (l : ℕ). numbersIn f (record {
+        left = l;
+        right = tileTo (g .«tile_width») w (suc (a + k));
+        top = tileFrom (g .«tile_height») j;
+        bottom = tileTo (g .«tile_height») h j;
+      }))
+      (sym (tiles-meet w (g .«tile_width») (z .tile-width) (a + k) S)))
       ∙ sym
       (beside f (tileFrom (g .«tile_width») a) m (tileTo (g .«tile_width») w (suc (a + k))) (tileFrom (g .«tile_height») j) (tileTo (g .«tile_height») h j)
       (tiles-some w (g .«tile_width») (z .tile-width) a (a + k) (omega arith) (omega arith))
@@ -61,7 +73,8 @@ module _ (f : ℕ → ℕ → ℕ) (g : TileThresholdConfig) (w h at : ℕ) (ws 
   row-is a i j A I J =
       let e : a + (i - a) ≡ i = omega arith in row-from a (i - a) j (omega arith) J ∙ ap (λ (k : ℕ). numbersIn f (tilesBox a k j j)) e
 
-  rows-from : (a i b k : ℕ) → a ≤ i → i < tilesX g w → b + k < tilesY g h → joinFrom (λ j. joinOver (λ x. tileEntry at (tilesX g w) ws x j) a i) b k ≡ numbersIn f (tilesBox a i b (b + k))
+  rows-from : (a i b k : ℕ) → a ≤ i → i < tilesX g w → b + k < tilesY g h
+      → joinFrom (λ j. joinOver (λ x. tileEntry at (tilesX g w) ws x j) a i) b k ≡ numbersIn f (tilesBox a i b (b + k))
   unfolding joinFrom
   rows-from a i b zero A I J =
       let e : b + 0 ≡ b = add-zero b in row-is a i b A I (omega arith) ∙ ap (λ (j : ℕ). numbersIn f (tilesBox a i b j)) (sym e)
@@ -72,14 +85,22 @@ module _ (f : ℕ → ℕ → ℕ) (g : TileThresholdConfig) (w h at : ℕ) (ws 
       ap₂ joined (rows-from a i b k A I (omega arith))
       (ap (λ (j : ℕ). joinOver (λ x. tileEntry at (tilesX g w) ws x j) a i) e
       ∙ row-is a i (suc (b + k)) A I S
-      ∙ ap (λ (l : ℕ). numbersIn f (record { left = tileFrom (g .«tile_width») a; right = tileTo (g .«tile_width») w i; top = l; bottom = tileTo (g .«tile_height») h (suc (b + k)) })) (sym (tiles-meet h (g .«tile_height») (z .tile-height) (b + k) S)))
+      ∙ ap
+      (λ (l : ℕ). numbersIn f (record {
+        left = tileFrom (g .«tile_width») a;
+        right = tileTo (g .«tile_width») w i;
+        top = l;
+        bottom = tileTo (g .«tile_height») h (suc (b + k));
+      }))
+      (sym (tiles-meet h (g .«tile_height») (z .tile-height) (b + k) S)))
       ∙ sym
       (below f (tileFrom (g .«tile_width») a) (tileTo (g .«tile_width») w i) (tileFrom (g .«tile_height») b) m (tileTo (g .«tile_height») h (suc (b + k)))
       (tiles-some h (g .«tile_height») (z .tile-height) b (b + k) (omega arith) (omega arith))
       (tiles-grow h (g .«tile_height») (z .tile-height) (b + k) S))
       ∙ ap (λ (j : ℕ). numbersIn f (tilesBox a i b j)) (sym e)
 
-  rows-are : (a i b j : ℕ) → a ≤ i → i < tilesX g w → b ≤ j → j < tilesY g h → joinOver (λ y. joinOver (λ x. tileEntry at (tilesX g w) ws x y) a i) b j ≡ numbersIn f (tilesBox a i b j)
+  rows-are : (a i b j : ℕ) → a ≤ i → i < tilesX g w → b ≤ j → j < tilesY g h
+      → joinOver (λ y. joinOver (λ x. tileEntry at (tilesX g w) ws x y) a i) b j ≡ numbersIn f (tilesBox a i b j)
   unfolding joinOver
   rows-are a i b j A I B J =
       let e : b + (j - b) ≡ j = omega arith in rows-from a i b (j - b) A I (omega arith) ∙ ap (λ (y : ℕ). numbersIn f (tilesBox a i b y)) e
@@ -88,7 +109,8 @@ module _ (f : ℕ → ℕ → ℕ) (g : TileThresholdConfig) (w h at : ℕ) (ws 
     -- the neighbourhood of a tile
     pub around-joined : joinedAround (g .«neighborhood_radius») (tilesX g w) (tilesY g h) at ws i j ≡ numbersIn f (around g w h i j)
     around-joined =
-        let r = g .«neighborhood_radius» in rows-are (low r i) (high r (tilesX g w) i) (low r j) (high r (tilesY g h) j) (omega arith) (omega arith) (omega arith) (omega arith)
+        let r = g .«neighborhood_radius» in
+        rows-are (low r i) (high r (tilesX g w) i) (low r j) (high r (tilesY g h) j) (omega arith) (omega arith) (omega arith) (omega arith)
 
     abbrev here : Box
     here = around g w h i j

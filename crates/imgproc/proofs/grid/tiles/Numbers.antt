@@ -8,7 +8,19 @@ use Rattle.imgproc.specs.declared.grid.tiles.TileNumbers.{TileNumbers}
 use Rattle.imgproc.specs.Fold.{foldFrom, foldOver, Box, foldBox}
 use Rattle.imgproc.specs.Extremes.{Some, lowest, highest, fold-box-extreme}
 use Rattle.imgproc.specs.Tiles.{numbersIn, lineNumbers, joined, Small}
-use Rattle.imgproc.proofs.grid.tiles.Folds.{Joining, running, running-none, running-more, running-all, running-small, fold-one, fold-same, box-below, box-beside, box-same}
+use Rattle.imgproc.proofs.grid.tiles.Folds.{
+  Joining,
+  running,
+  running-none,
+  running-more,
+  running-all,
+  running-small,
+  fold-one,
+  fold-same,
+  box-below,
+  box-beside,
+  box-same,
+}
 
 -- numbers are equal field by field
 pub same : (a b : TileNumbers) → a .minimum ≡ b .minimum → a .maximum ≡ b .maximum → a .sum ≡ b .sum → a .«sum_sq» ≡ b .«sum_sq» → a .count ≡ b .count → a ≡ b

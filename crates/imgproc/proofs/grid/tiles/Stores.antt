@@ -22,7 +22,8 @@ five ws at n room =
     let lb : length b ≡ length ws = length-set a (at + 1) (n .maximum) ∙ la in
     let lc : length c ≡ length ws = length-set b (at + 2) (n .sum) ∙ lb in
     let ld : length d ≡ length ws = length-set c (at + 3) (n .«sum_sq») ∙ lc in
-    let other : (i : ℕ) → (i ≡ at → ⊥) → (i ≡ at + 1 → ⊥) → (i ≡ at + 2 → ⊥) → (i ≡ at + 3 → ⊥) → (i ≡ at + 4 → ⊥) → getD (stored ws at n) i 0 ≡ getD ws i 0 = λ i p q r s t.
+    let other : (i : ℕ) → (i ≡ at → ⊥) → (i ≡ at + 1 → ⊥) → (i ≡ at + 2 → ⊥) → (i ≡ at + 3 → ⊥) → (i ≡ at + 4 → ⊥)
+    → getD (stored ws at n) i 0 ≡ getD ws i 0 = λ i p q r s t.
     getD-set-other d (at + 4) i (n .count) 0 t
     ∙ getD-set-other c (at + 3) i (n .«sum_sq») 0 s
     ∙ getD-set-other b (at + 2) i (n .sum) 0 r

@@ -39,7 +39,13 @@ mul-m : tie.Need-mul-m Inv-loop μ-loop
 mul-m c = omega arith
 
 sub-e : tie.Need-sub-e Inv-loop μ-loop
-sub-e c = omega (arith, low-e 52 1074 (c .before .loop .m) (c .before .loop .e) (c .before .before .before .args .b) (c .loop-test .taken) (c .before .before .before .pre .0) (c .before .loop .inv .3))
+sub-e c =
+    omega (
+      arith,
+      low-e 52 1074 (c .before .loop .m) (c .before .loop .e)
+          (c .before .before .before .args .b) (c .loop-test .taken)
+          (c .before .before .before .pre .0) (c .before .loop .inv .3),
+    )
 
 loop-less : tie.Need-loop-less Inv-loop μ-loop
 loop-less c = omega arith

@@ -20,11 +20,21 @@ root-bits-requires c κs = (above-bits (c .before .before .args .x) (held (c .be
 
 float-from-bits-result : tie.Need-float-from-bits-result
 unfolding ofBits
-float-from-bits-result c = no-nan (toBits binary64 (c .before .before .before .args .x)) (above-bits (c .before .before .before .args .x) (held (c .before .before .before)) (c .before .before .if1 .taken)) (c .before .if2 .taken) (c .root-bits .result) (c .root-bits .ensures)
+float-from-bits-result c =
+    no-nan
+    (toBits binary64 (c .before .before .before .args .x))
+    (above-bits (c .before .before .before .args .x) (held (c .before .before .before)) (c .before .before .if1 .taken))
+    (c .before .if2 .taken) (c .root-bits .result) (c .root-bits .ensures)
 
 returns : tie.Need-returns
 unfolding ofBits
-returns c = reads (toBits binary64 (c .before .before .before .args .x)) (above-bits (c .before .before .before .args .x) (held (c .before .before .before)) (c .before .before .if1 .taken)) (c .before .if2 .taken) (c .before .before .before .args .x) (held (c .before .before .before)) refl (c .root-bits .result) (c .root-bits .ensures)
+returns c =
+    reads
+    (toBits binary64 (c .before .before .before .args .x))
+    (above-bits (c .before .before .before .args .x) (held (c .before .before .before)) (c .before .before .if1 .taken))
+    (c .before .if2 .taken)
+    (c .before .before .before .args .x)
+    (held (c .before .before .before)) refl (c .root-bits .result) (c .root-bits .ensures)
 
 returns-2 : tie.Need-returns-2
 unfolding ofBits

@@ -26,7 +26,12 @@ digits-requires : tie.Need-digits-requires
 digits-requires c κs = omega (arith, c .parts .ensures .under, small (c .parts .result .m) (c .parts .result .e))
 
 add-rounded : tie.Need-add-rounded
-add-rounded c = omega (arith, r-hi (c .before .before .args .b) (c .before .parts .result .m) (c .before .parts .result .e) (c .digits .result) (c .before .before .pre .1) (c .before .parts .ensures) (c .digits .ensures))
+add-rounded c =
+    omega (
+      arith,
+      r-hi (c .before .before .args .b) (c .before .parts .result .m) (c .before .parts .result .e) (c .digits .result) (c .before .before .pre .1)
+          (c .before .parts .ensures) (c .digits .ensures),
+    )
 
 sub-result : tie.Need-sub-result
 sub-result c = search needs
@@ -38,7 +43,9 @@ add-result : tie.Need-add-result
 add-result c = search needs
 
 returns : tie.Need-returns
-returns c = root-is (c .before .before .args .b) (c .before .parts .result .m) (c .before .parts .result .e) (c .digits .result) (c .before .before .pre .1) (c .before .parts .ensures) (c .digits .ensures)
+returns c =
+    root-is (c .before .before .args .b) (c .before .parts .result .m) (c .before .parts .result .e) (c .digits .result) (c .before .before .pre .1)
+    (c .before .parts .ensures) (c .digits .ensures)
 
 pub root-bits-spec : {M : Type 1} → statement M
 root-bits-spec =

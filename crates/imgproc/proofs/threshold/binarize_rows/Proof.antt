@@ -7,6 +7,7 @@ use mathlib.Core.List.{List}
 use lib.ListN.{length}
 use denote.Ref.{now}
 use Rattle.image.specs.Plane.{picture}
+use Rattle.image.specs.Views.{painted-sides}
 use Rattle.imgproc.specs.Sauvola.{binarized}
 use Rattle.image.specs.PaintRows.{RowsPainted, rows-start, rows-same, rows-done, row-fits, part-long, rows-next, row-within-as}
 use Rattle.imgproc.proofs.threshold.Verdicts.{binarized-pixel}
@@ -15,7 +16,8 @@ use Rattle.imgproc.proofs.threshold.binarize_rows.Tie as tie
 
 abbrev Inv-loop : tie.InvT-loop
 Inv-loop src geometry workspace at dst₀ dst-geometry config y₀ dst y =
-    RowsPainted (binarized config (geometry .width) (geometry .height) (picture src geometry)) (geometry .width) (geometry .height) (dst-geometry .stride) dst₀ dst y
+    RowsPainted (binarized config (geometry .width) (geometry .height) (picture src geometry))
+    (geometry .width) (geometry .height) (dst-geometry .stride) dst₀ dst y
 
 abbrev μ-loop : tie.MeasureT-loop
 μ-loop src geometry workspace at dst₀ dst-geometry config y₀ dst y = geometry .height - y
@@ -28,13 +30,15 @@ start t = t .before .before .before .before .before .before
 
 -- the destination's rows are as wide as the picture
 wide : (s : tie.Start Inv-loop μ-loop) → (0 < s .args .geometry .width) × (s .args .geometry .width ≤ s .args .dst-geometry .stride)
-wide s = (s .pre .0 .layout .wide, omega (arith, s .pre .1 .0 .stride, s .pre .1 .1 .0))
+wide s = (s .pre .ready .layout .wide, omega (arith, s .pre .to .stride, s .pre .wide))
 
 -- row y of the destination
-within : (t : tie.Then1 Inv-loop μ-loop) → t .before .before .loop .y * start t .args .dst-geometry .stride + start t .args .geometry .width ≤ length (now (start t .args .dst))
-within t = let s = start t in row-within-as (s .pre .1 .0) (s .pre .1 .1 .0) (s .pre .1 .1 .1) (t .before .before .loop .y) (t .if1 .taken)
+within : (t : tie.Then1 Inv-loop μ-loop)
+    → t .before .before .loop .y * start t .args .dst-geometry .stride + start t .args .geometry .width ≤ length (now (start t .args .dst))
+within t = let s = start t in row-within-as (s .pre .to) (sym (s .pre .wide)) (sym (s .pre .high)) (t .before .before .loop .y) (t .if1 .taken)
 
-fits : (t : tie.Then1 Inv-loop μ-loop) → t .before .before .loop .y * start t .args .dst-geometry .stride + start t .args .geometry .width ≤ length (t .before .before .loop .dst)
+fits : (t : tie.Then1 Inv-loop μ-loop)
+    → t .before .before .loop .y * start t .args .dst-geometry .stride + start t .args .geometry .width ≤ length (t .before .before .loop .dst)
 fits t =
     let s = start t in
     let l = t .before .before .loop in
@@ -63,11 +67,15 @@ verdict-row-requires c κs =
     let t = c .before .before .before in
     let s = start t in
     let l = t .before .before .loop in
-    (s .pre .0, (t .if1 .taken, part-long (new s) _ _ _ (now (s .args .dst)) (l .y) (l .inv) (wide s .0) (wide s .1) (within t)))
+    record {
+      ready = s .pre .ready;
+      inside = t .if1 .taken;
+      wide = part-long (new s) _ _ _ (now (s .args .dst)) (l .y) (l .inv) (wide s .0) (wide s .1) (within t);
+    }
 
 add-y : tie.Need-add-y Inv-loop μ-loop
 add-y c =
-    let t = c .before .before .before .before .before .before in omega (arith, t .if1 .taken, start t .pre .0 .layout .small-height)
+    let t = c .before .before .before .before .before .before in omega (arith, t .if1 .taken, start t .pre .ready .layout .small-height)
 
 loop-less : tie.Need-loop-less Inv-loop μ-loop
 loop-less c = let t = c .before .before .before .before .before .before in omega (arith, t .if1 .taken)
@@ -81,7 +89,9 @@ loop-again c =
     let g = s .args .geometry in
     rows-next (new s) _ _ _ (now (s .args .dst)) (l .y) (l .inv) (wide s .0) (wide s .1) (within t) (v .verdict-row .last .1 .1 .1 .1 .1 .1 .0)
     (v .verdict-row .kept .1 .1 .1 .1 .1 .1 .0 ∙ part-long (new s) _ _ _ (now (s .args .dst)) (l .y) (l .inv) (wide s .0) (wide s .1) (within t))
-    (λ x u. v .verdict-row .ensures x u ∙ sym (binarized-pixel (s .args .config) (g .width) (g .height) (picture (now (s .args .src)) g) x (l .y) u (t .if1 .taken)))
+    (λ x u.
+    v .verdict-row .ensures x u
+    ∙ sym (binarized-pixel (s .args .config) (g .width) (g .height) (picture (now (s .args .src)) g) x (l .y) u (t .if1 .taken)))
     (t .if1 .taken)
 
 same-length : tie.Need-same-length Inv-loop μ-loop
@@ -92,7 +102,9 @@ same-length c =
 returns : tie.Need-returns Inv-loop μ-loop
 returns c =
     let s = c .before .before .before .before .before .before in
-    let l = c .before .before .loop in rows-done (new s) _ _ _ (now (s .args .dst)) (l .y) (l .inv) (c .if1 .left)
+    let l = c .before .before .loop in
+    rows-done (new s) _ _ _ (now (s .args .dst)) (l .y) (l .inv) (c .if1 .left)
+    ∙ painted-sides (now (s .args .dst)) (s .args .dst-geometry) (new s) (sym (s .pre .wide)) (sym (s .pre .high))
 
 pub binarize-rows-spec : {M : Type 1} → statement M
 binarize-rows-spec =

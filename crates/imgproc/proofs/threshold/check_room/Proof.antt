@@ -37,7 +37,8 @@ enum-told-2 c = search needs
 returns : tie.Need-returns
 returns c =
     let r = c .before .before in
-    c .enum-told2 .given .1 ∙ sym (then-refused (sauvolaSettings (r .before .args .config)) (room (r .before)) (sym (r .check-settings .ensures) ∙ c .enum-told2 .given .1))
+    c .enum-told2 .given .1
+    ∙ sym (then-refused (sauvolaSettings (r .before .args .config)) (room (r .before)) (sym (r .check-settings .ensures) ∙ c .enum-told2 .given .1))
 
 add-if1 : tie.Need-add-if1
 add-if1 c = search needs

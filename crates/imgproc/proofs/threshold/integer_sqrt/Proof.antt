@@ -1,4 +1,4 @@
--- `integer_sqrt` halves the numbers that the root may be, from `low` up to `high`, which is left out. Assumes nothing.
+-- `integer_sqrt` finds the root by bisection: it is at least `low` and below `high`. Assumes nothing.
 use Prim.Native.Nat.{_+_, _-_, _*_, _/_, _≤_, _<_}
 use native.Mathlib.Nat.{mul-le-mul, lt-of-le-of-lt}
 use native.Mathlib.Omega.{arith}

@@ -3,6 +3,7 @@ use borrow.Author.Needs.{needs}
 use mathlib.Core.Path.{refl, sym, _∙_}
 use lib.ListN.{length}
 use denote.Ref.{now}
+use Rattle.image.specs.Views.{painted-sides}
 use Rattle.imgproc.specs.declared.ImgProcError.the-variants.{Image, DimensionMismatch}
 use Rattle.imgproc.proofs.WaysOut.{Pair, pair-of, source-kept, target-kept, ways}
 use Rattle.imgproc.proofs.Serving.{refused-call, served}
@@ -20,7 +21,11 @@ first c = second c .before .before .before .before
 abbrev start : tie.Else2 → tie.Start
 start c = first c .before .before .before .before .before .before .before
 
-pair : (c : tie.Else2) → let a = start c .args in Pair (length (now (a .src))) (a .src-geometry) (length (now (a .dst))) (a .dst-geometry) (first c .before .layout .given .0 .0) (second c .before .dst-layout .given .0 .0)
+pair : (c : tie.Else2)
+    → let a = start c .args in
+    Pair (length (now (a .src))) (a .src-geometry) (length (now (a .dst))) (a .dst-geometry)
+    (first c .before .layout .given .0 .0)
+    (second c .before .dst-layout .given .0 .0)
 pair c = search pair-of
 
 validate-layout-requires : tie.Need-validate-layout-requires
@@ -76,7 +81,8 @@ binarize-requires c κs =
     let t = c .before .before in
     let r = t .before .before in
     let p = pair (r .before) in
-    ((source-kept p, (target-kept p, (sym (p .wide), sym (p .high)))), room-here p (r .check-room .ensures) (t .enum-told3 .given .1))
+    let room = room-here p (r .check-room .ensures) (t .enum-told3 .given .1) in
+    record { from = source-kept p; to = target-kept p; wide = p .wide; high = p .high; settings = room .0; fits = room .1 }
 
 same-length : tie.Need-same-length
 same-length c = search needs
@@ -89,7 +95,10 @@ returns-6 c =
     let b = c .before .before .before .before in
     let t = b .before .before .before in
     let r = t .before .before in
-    served (pair (r .before)) (sym (r .check-room .ensures) ∙ t .enum-told3 .given .1) refl (b .binarize .ensures) (b .binarize .kept .1 .1 .1 .1 .1 .0)
+    let p = pair (r .before) in
+    served p (sym (r .check-room .ensures) ∙ t .enum-told3 .given .1) refl
+    (b .binarize .ensures ∙ sym (painted-sides (now (start (r .before) .args .dst)) _ _ (sym (p .wide)) (sym (p .high))))
+    (b .binarize .kept .1 .1 .1 .1 .1 .0)
 
 pub sauvola-into-spec : {M : Type 1} → statement M
 sauvola-into-spec =

@@ -36,7 +36,8 @@ module _ (f : ℕ → ℕ → ℕ) where
   entry-left wide y l = sym (entry wide 0 y l ∙ box-left f y)
 
 -- no sum of squares of bytes passes 64 bits
-pub box-small : (f : ℕ → ℕ → ℕ) (w h x y : ℕ) → ((i j : ℕ) → i < w → j < h → f i j ≤ 65025) → x ≤ w → y ≤ h → w ≤ sideLimit → h ≤ sideLimit → boxSum f x y ≤ 65025 * sideLimit * sideLimit
+pub box-small : (f : ℕ → ℕ → ℕ) (w h x y : ℕ) → ((i j : ℕ) → i < w → j < h → f i j ≤ 65025) → x ≤ w → y ≤ h → w ≤ sideLimit → h ≤ sideLimit
+    → boxSum f x y ≤ 65025 * sideLimit * sideLimit
 box-small f w h x y small X Y W H =
     le-trans (box-le f 65025 x y (λ i j l m. small i j (omega arith) (omega arith)))
     (mul-le-mul {n₁ = 65025 * x} {m₁ = y} {n₂ = 65025 * sideLimit} {m₂ = sideLimit} (omega arith) (omega arith))
@@ -173,7 +174,8 @@ module _ (f : ℕ → ℕ → ℕ) (w h base y : ℕ) (m : y < h) where
               (getD ws (base + (w + 1) * (h + 1) + (y * (w + 1) + (x + 1))) 0 + (q + v * v)))) (add-assoc _ _ _)
               (both-more f w h base n _ _ (r .both) (omega (arith, rows-fit w h y m))
               (ap (λ (k : ℕ). getD ws (base + (y * (w + 1) + (x + 1))) 0 + (s + k)) e ∙ next-entry f w x y _ s l above-sum (r .sum))
-              (ap (λ (k : ℕ). getD ws (base + (w + 1) * (h + 1) + (y * (w + 1) + (x + 1))) 0 + (q + k)) e2 ∙ next-entry (squared f) w x y _ q l above-square (r .square)));
+              (ap (λ (k : ℕ). getD ws (base + (w + 1) * (h + 1) + (y * (w + 1) + (x + 1))) 0 + (q + k)) e2
+              ∙ next-entry (squared f) w x y _ q l above-square (r .square)));
         }
 
     -- the row's sums are small

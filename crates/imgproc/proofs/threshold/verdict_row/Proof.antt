@@ -26,12 +26,16 @@ start t = t .before .before .before .before .before .before .before
 long : (t : tie.Then1 Inv-loop μ-loop) → length (now (t .before .before .before .row .result)) ≡ start t .args .geometry .width
 long t =
     let s = start t in
-    row-long (now (s .args .src)) (s .args .geometry) (s .pre .0 .layout) (s .args .y) (s .pre .1 .0) (t .before .before .before .row .ensures .bytes)
+    row-long (now (s .args .src)) (s .args .geometry) (s .pre .ready .layout) (s .args .y) (s .pre .inside) (t .before .before .before .row .ensures .bytes)
 
-value-is : (t : tie.Then1 Inv-loop μ-loop) → getD (now (t .before .before .before .row .result)) (t .before .before .loop .next) 0 ≡ pixelsOf (now (start t .args .src)) (start t .args .geometry) (t .before .before .loop .next) (start t .args .y)
+value-is : (t : tie.Then1 Inv-loop μ-loop)
+    → getD (now (t .before .before .before .row .result)) (t .before .before .loop .next) 0
+    ≡ pixelsOf (now (start t .args .src)) (start t .args .geometry) (t .before .before .loop .next) (start t .args .y)
 value-is t =
     let s = start t in
-    row-picture (now (s .args .src)) (s .args .geometry) (s .pre .0 .layout) (s .args .y) (s .pre .1 .0) (t .before .before .before .row .ensures .bytes) (t .before .before .loop .next) (t .if1 .taken)
+    row-picture (now (s .args .src)) (s .args .geometry) (s .pre .ready .layout) (s .args .y) (s .pre .inside)
+    (t .before .before .before .row .ensures .bytes)
+    (t .before .before .loop .next) (t .if1 .taken)
 
 row-requires : tie.Need-row-requires Inv-loop μ-loop
 row-requires c κs = tt
@@ -40,10 +44,10 @@ loop-holds : tie.Need-loop-holds Inv-loop μ-loop
 loop-holds c = filled-none _ _ _
 
 add-next : tie.Need-add-next Inv-loop μ-loop
-add-next c = omega (arith, c .if1 .taken, (start c) .pre .0 .layout .small-width)
+add-next c = omega (arith, c .if1 .taken, (start c) .pre .ready .layout .small-width)
 
 threshold-at-pixel-requires : tie.Need-threshold-at-pixel-requires Inv-loop μ-loop
-threshold-at-pixel-requires c κs = let s = start c in (s .pre .0, (c .if1 .taken, s .pre .1 .0))
+threshold-at-pixel-requires c κs = let s = start c in (s .pre .ready, (c .if1 .taken, s .pre .inside))
 
 shared-slice-read-if2 : tie.Need-shared-slice-read-if2 Inv-loop μ-loop
 shared-slice-read-if2 c = let t = c .before .before in omega (arith, long t, t .if1 .taken)
@@ -52,7 +56,7 @@ cast-if2 : tie.Need-cast-if2 Inv-loop μ-loop
 cast-if2 c = omega (arith, c .shared-slice-known3 .given (c .before .before .before .before .loop .next))
 
 slice-write-out : tie.Need-slice-write-out Inv-loop μ-loop
-slice-write-out c = let t = c .before .before .before in omega (arith, t .before .before .loop .inv .same, start t .pre .1 .1, t .if1 .taken)
+slice-write-out c = let t = c .before .before .before in omega (arith, t .before .before .loop .inv .same, start t .pre .wide, t .if1 .taken)
 
 loop-less : tie.Need-loop-less Inv-loop μ-loop
 loop-less c = let t = c .before .before .before in omega (arith, t .if1 .taken)
@@ -65,11 +69,13 @@ loop-again c =
     let s = start t in
     let a = s .args in
     let g = a .geometry in
-    filled-more (λ x. verdict (a .config) (g .width) (g .height) (picture (now (a .src)) g) x (a .y)) (g .width) (now (a .out)) (l .out) (l .next) _ (s .pre .1 .1) (l .inv) (t .if1 .taken)
+    filled-more
+    (λ x. verdict (a .config) (g .width) (g .height) (picture (now (a .src)) g) x (a .y)) (g .width)
+    (now (a .out)) (l .out) (l .next) _ (s .pre .wide) (l .inv) (t .if1 .taken)
     (verdict-dark (a .config) (g .width) (g .height) (picture (now (a .src)) g) (l .next) (a .y) (value-is t) (h .threshold-at-pixel .ensures) (c .if2 .taken))
 
 slice-write-out-2 : tie.Need-slice-write-out-2 Inv-loop μ-loop
-slice-write-out-2 c = let t = c .before .before .before in omega (arith, t .before .before .loop .inv .same, start t .pre .1 .1, t .if1 .taken)
+slice-write-out-2 c = let t = c .before .before .before in omega (arith, t .before .before .loop .inv .same, start t .pre .wide, t .if1 .taken)
 
 loop-less-2 : tie.Need-loop-less-2 Inv-loop μ-loop
 loop-less-2 c = let t = c .before .before .before in omega (arith, t .if1 .taken)
@@ -82,7 +88,9 @@ loop-again-2 c =
     let s = start t in
     let a = s .args in
     let g = a .geometry in
-    filled-more (λ x. verdict (a .config) (g .width) (g .height) (picture (now (a .src)) g) x (a .y)) (g .width) (now (a .out)) (l .out) (l .next) _ (s .pre .1 .1) (l .inv) (t .if1 .taken)
+    filled-more
+    (λ x. verdict (a .config) (g .width) (g .height) (picture (now (a .src)) g) x (a .y)) (g .width)
+    (now (a .out)) (l .out) (l .next) _ (s .pre .wide) (l .inv) (t .if1 .taken)
     (verdict-light (a .config) (g .width) (g .height) (picture (now (a .src)) g) (l .next) (a .y) (value-is t) (h .threshold-at-pixel .ensures) (c .if2 .left))
 
 same-length : tie.Need-same-length Inv-loop μ-loop

@@ -6,13 +6,14 @@ use native.Mathlib.Omega.{arith}
 use lib.Ieee.{Float, ofBits, le}
 use Rattle.imgproc.specs.Grid.{halfPast}
 use Rattle.imgproc.proofs.grid.base.Halves.{exact}
-use Rattle.imgproc.proofs.grid.base.Halving.{falls, stays, count-is}
+use Rattle.imgproc.proofs.grid.base.Bisection.{falls, stays, count-is}
 use borrow.Author.Needs.{needs}
 use Rattle.imgproc.proofs.grid.base.rounded.Statement.{statement}
 use Rattle.imgproc.proofs.grid.base.rounded.Tie as tie
 
 abbrev Inv-loop : tie.InvT-loop
-Inv-loop v low₀ high₀ low high = (low ≤ high) × (high ≤ 255) × ((i : ℕ) → i < low → le (halfPast i) v ≡ true) × ((i : ℕ) → high ≤ i → i < 255 → le (halfPast i) v ≡ false)
+Inv-loop v low₀ high₀ low high =
+    (low ≤ high) × (high ≤ 255) × ((i : ℕ) → i < low → le (halfPast i) v ≡ true) × ((i : ℕ) → high ≤ i → i < 255 → le (halfPast i) v ≡ false)
 
 abbrev μ-loop : tie.MeasureT-loop
 μ-loop v low₀ high₀ low high = high - low

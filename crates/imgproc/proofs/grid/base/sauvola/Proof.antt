@@ -23,7 +23,12 @@ returns : tie.Need-returns
 unfolding ofBits
 returns c =
     let a = c .before .before .before .before .args in
-    c .rounded .ensures ∙ ap (countTo 255) (sauvola-is (a .sum) (a .sum-sq) (a .count) (a .k) (a .dynamic-range) (c .before .before .before .mean .result) (c .before .before .variance .result) (c .before .root .result) (c .before .before .before .mean .ensures) (c .before .before .variance .ensures) (c .before .root .ensures))
+    c .rounded .ensures
+    ∙ ap (countTo 255)
+    (sauvola-is (a .sum) (a .sum-sq) (a .count) (a .k) (a .dynamic-range) _ _ _
+    (c .before .before .before .mean .ensures)
+    (c .before .before .variance .ensures)
+    (c .before .root .ensures))
 
 pub sauvola-spec : {M : Type 1} → statement M
 sauvola-spec =

@@ -17,13 +17,16 @@ returns : tie.Need-returns
 returns c = is-low (c .before .args .base) (c .before .args .offset) (c .before .fits .base .fits) (c .before .fits .offset) (c .if1 .taken)
 
 returns-2 : tie.Need-returns-2
-returns-2 c = is-high (c .before .before .args .base) (c .before .before .args .offset) (c .before .before .fits .base .fits) (c .before .before .fits .offset) (c .if2 .taken)
+returns-2 c =
+    let s = c .before .before in is-high (s .args .base) (s .args .offset) (s .fits .base .fits) (s .fits .offset) (c .if2 .taken)
 
 cast-result : tie.Need-cast-result
-cast-result c = is-byte (c .before .before .args .base) (c .before .before .args .offset) (c .before .before .fits .base .fits) (c .before .before .fits .offset) (c .before .if1 .left) (c .if2 .left)
+cast-result c =
+    let s = c .before .before in is-byte (s .args .base) (s .args .offset) (s .fits .base .fits) (s .fits .offset) (c .before .if1 .left) (c .if2 .left)
 
 returns-3 : tie.Need-returns-3
-returns-3 c = is-mid (c .before .before .args .base) (c .before .before .args .offset) (c .before .before .fits .base .fits) (c .before .before .fits .offset) (c .before .if1 .left) (c .if2 .left)
+returns-3 c =
+    let s = c .before .before in is-mid (s .args .base) (s .args .offset) (s .fits .base .fits) (s .fits .offset) (c .before .if1 .left) (c .if2 .left)
 
 pub stored-spec : {M : Type 1} → statement M
 stored-spec = tie.close (tie.spec cast-t cast-t-2 add-t returns returns-2 cast-result returns-3)

@@ -10,7 +10,8 @@ float-from-bits-infinite c = tt
 
 returns : tie.Need-returns
 unfolding ofBits neg
-returns c = all (c .before .before .before .args .k) (c .before .before .before .args .range) (c .before .before .if1 .taken) (c .before .if2 .taken) (c .if3 .taken)
+returns c =
+    all (c .before .before .before .args .k) (c .before .before .before .args .range) (c .before .before .if1 .taken) (c .before .if2 .taken) (c .if3 .taken)
 
 returns-2 : tie.Need-returns-2
 unfolding ofBits neg

@@ -1,8 +1,11 @@
 -- `write_bytes` meets its contract. The invariant: the bytes of the tiles passed are written. Assumes nothing.
 use Prim.Native.Nat.{ℕ, _-_, _*_, _/_, _%_, _≤_, _<_}
 use mathlib.Core.Path.{_≡_, sym, ap, ap₂, _∙_, subst}
+use mathlib.Core.List.{List}
 use native.Mathlib.Omega.{arith}
 use Rattle.image.specs.Plane.{tabulate, overwritten}
+use Rattle.imgproc.specs.declared.grid.config.TileThresholdConfig.{TileThresholdConfig}
+use Rattle.imgproc.specs.declared.grid.tiles.TileNumbers.{TileNumbers}
 use Rattle.imgproc.specs.Grid.{tilesX, tilesY}
 use Rattle.imgproc.specs.TileBytes.{byteBy}
 use Rattle.imgproc.specs.Tiles.{Proper, SmallGrid, joinedAround}
@@ -13,8 +16,14 @@ use borrow.Author.Needs.{needs}
 use Rattle.imgproc.proofs.grid.bytes.write_bytes.Statement.{statement}
 use Rattle.imgproc.proofs.grid.bytes.write_bytes.Tie as tie
 
+-- the numbers around tile k, in a grid that counts tx by ty tiles
+abbrev around : TileThresholdConfig → ℕ → List ℕ → ℕ → ℕ → ℕ → TileNumbers
+around g at ws tx ty k = joinedAround (g .«neighborhood_radius») tx ty at ws (k % tx) (k / tx)
+
 abbrev Inv-loop : tie.InvT-loop
-Inv-loop which workspace at width height config bytes₀ to tiles-x tiles-y total radius t₀ bytes t = (t ≤ total) × (bytes ≡ overwritten to (tabulate (λ k. byteBy which config (joinedAround (config .«neighborhood_radius») (tilesX config width) (tilesY config height) at workspace (k % tilesX config width) (k / tilesX config width))) t) bytes₀)
+Inv-loop which workspace at width height config bytes₀ to tiles-x tiles-y total radius t₀ bytes t =
+    let numbers = around config at workspace (tilesX config width) (tilesY config height) in
+    (t ≤ total) × (bytes ≡ overwritten to (tabulate (λ k. byteBy which config (numbers k)) t) bytes₀)
 
 abbrev μ-loop : tie.MeasureT-loop
 μ-loop which workspace at width height config bytes₀ to tiles-x tiles-y total radius t₀ bytes t = total - t
@@ -22,14 +31,19 @@ abbrev μ-loop : tie.MeasureT-loop
 -- the byte of tile k
 byte : tie.Start Inv-loop μ-loop → ℕ → ℕ
 byte s k =
-    let g = s .args .config in
-    let tx = tilesX g (s .args .width) in byteBy (s .args .which) g (joinedAround (g .«neighborhood_radius») tx (tilesY g (s .args .height)) (s .args .at) (s .args .workspace .now) (k % tx) (k / tx))
+    let a = s .args in
+    let g = a .config in
+    byteBy (a .which) g (around g (a .at) (a .workspace .now) (tilesX g (a .width)) (tilesY g (a .height)) k)
 
 -- the joined numbers as the code and as the grid count tiles
-counted : (k : tie.After-tiles-along2 Inv-loop μ-loop) (t : ℕ) → joinedAround (k .before .before .before .before .args .config .«neighborhood_radius») (k .before .tiles-along .result) (k .tiles-along2 .result) (k .before .before .before .before .args .at) (k .before .before .before .before .args .workspace .now) (t % k .before .tiles-along .result) (t / k .before .tiles-along .result) ≡ joinedAround (k .before .before .before .before .args .config .«neighborhood_radius») (tilesX (k .before .before .before .before .args .config) (k .before .before .before .before .args .width)) (tilesY (k .before .before .before .before .args .config) (k .before .before .before .before .args .height)) (k .before .before .before .before .args .at) (k .before .before .before .before .args .workspace .now) (t % tilesX (k .before .before .before .before .args .config) (k .before .before .before .before .args .width)) (t / tilesX (k .before .before .before .before .args .config) (k .before .before .before .before .args .width))
+counted : (k : tie.After-tiles-along2 Inv-loop μ-loop) (t : ℕ)
+    → let a = k .before .before .before .before .args in
+    let numbers = around (a .config) (a .at) (a .workspace .now) in
+    numbers (k .before .tiles-along .result) (k .tiles-along2 .result) t
+    ≡ numbers (tilesX (a .config) (a .width)) (tilesY (a .config) (a .height)) t
 counted k t =
     let a = k .before .before .before .before .args in
-    ap₂ (λ (x y : ℕ). joinedAround (a .config .«neighborhood_radius») x y (a .at) (a .workspace .now) (t % x) (t / x)) (k .before .tiles-along .ensures) (k .tiles-along2 .ensures)
+    ap₂ (λ (x y : ℕ). around (a .config) (a .at) (a .workspace .now) x y t) (k .before .tiles-along .ensures) (k .tiles-along2 .ensures)
 
 tiles-along-requires : tie.Need-tiles-along-requires Inv-loop μ-loop
 tiles-along-requires c κs = c .before .before .pre .0 .tile-width
@@ -58,9 +72,10 @@ join-around-requires c κs =
     let n = small-grid (s .pre .1 .picture) (s .args .config) (s .args .width) (s .args .height) (s .args .at) (s .args .workspace .now) (s .pre .0) G in
     let X = k .before .tiles-along .ensures in
     let Y = k .tiles-along2 .ensures in (
-      subst (λ (x : ℕ). SmallGrid (s .args .at) x (k .tiles-along2 .result) (s .args .workspace .now)) (sym X) (subst (λ (y : ℕ). SmallGrid (s .args .at) (tilesX (s .args .config) (s .args .width)) y (s .args .workspace .now)) (sym Y) n),
-      omega (arith, X, column (k .before .before .before .before .pre .0) (k .before .tiles-along .ensures) (k .tiles-along2 .ensures) (c .before .loop .t)),
-      omega (arith, Y, row (k .before .before .before .before .pre .0) (k .before .tiles-along .ensures) (k .tiles-along2 .ensures) (c .before .loop .t) (c .loop-test .taken)),
+      subst (λ (x : ℕ). SmallGrid (s .args .at) x (k .tiles-along2 .result) (s .args .workspace .now)) (sym X)
+          (subst (λ (y : ℕ). SmallGrid (s .args .at) (tilesX (s .args .config) (s .args .width)) y (s .args .workspace .now)) (sym Y) n),
+      omega (arith, X, column (s .pre .0) X Y (c .before .loop .t)),
+      omega (arith, Y, row (s .pre .0) X Y (c .before .loop .t) (c .loop-test .taken)),
     )
 
 tile-byte-requires : tie.Need-tile-byte-requires Inv-loop μ-loop
@@ -68,19 +83,33 @@ tile-byte-requires c κs =
     let k = c .before .before .before in
     let s = k .before .before .before .before in
     let l = c .before .before .loop in
-    let n = k .before .tiles-along .result in
-    let i = column (k .before .before .before .before .pre .0) (k .before .tiles-along .ensures) (k .tiles-along2 .ensures) (l .t) in
-    let e : l .t % tilesX (s .args .config) (s .args .width) < tilesX (s .args .config) (s .args .width) = subst (λ (x : ℕ). l .t % x < tilesX (s .args .config) (s .args .width)) (k .before .tiles-along .ensures) i in
-    let f : l .t / tilesX (s .args .config) (s .args .width) < tilesY (s .args .config) (s .args .height) = subst (λ (x : ℕ). l .t / x < tilesY (s .args .config) (s .args .height)) (k .before .tiles-along .ensures) (row (k .before .before .before .before .pre .0) (k .before .tiles-along .ensures) (k .tiles-along2 .ensures) (l .t) (c .before .loop-test .taken)) in
+    let a = s .args in
+    let tx = tilesX (a .config) (a .width) in
+    let ty = tilesY (a .config) (a .height) in
+    let X = k .before .tiles-along .ensures in
+    let Y = k .tiles-along2 .ensures in
+    let e : l .t % tx < tx = subst (λ (x : ℕ). l .t % x < tx) X (column (s .pre .0) X Y (l .t)) in
+    let f : l .t / tx < ty = subst (λ (x : ℕ). l .t / x < ty) X (row (s .pre .0) X Y (l .t) (c .before .loop-test .taken)) in
     let p = s .pre .1 .picture in
     let G = s .pre .1 .gathered in
     subst Proper
-    (sym (c .join-around .ensures ∙ counted k (l .t) ∙ around-joined p (s .args .config) (s .args .width) (s .args .height) (s .args .at) (s .args .workspace .now) (s .pre .0) G _ _ e f))
-    (around-proper p (s .args .config) (s .args .width) (s .args .height) (s .args .at) (s .args .workspace .now) (s .pre .0) G _ _ e f)
+    (sym
+    (c .join-around .ensures
+    ∙ counted k (l .t)
+    ∙ around-joined p (a .config) (a .width) (a .height) (a .at) (a .workspace .now) (s .pre .0) G _ _ e f))
+    (around-proper p (a .config) (a .width) (a .height) (a .at) (a .workspace .now) (s .pre .0) G _ _ e f)
 
 add-bytes : tie.Need-add-bytes Inv-loop μ-loop
 add-bytes c =
-    let k = c .before .before .before .before in omega (arith, total (k .before .before .before .before .pre .0) (k .before .tiles-along .ensures) (k .tiles-along2 .ensures), c .before .before .loop-test .taken, k .before .before .before .before .pre .2, k .before .before .before .before .good .1 .1 .1 .1 .1 .1 .0)
+    let k = c .before .before .before .before in
+    let s = k .before .before .before .before in
+    omega (
+      arith,
+      total (s .pre .0) (k .before .tiles-along .ensures) (k .tiles-along2 .ensures),
+      c .before .before .loop-test .taken,
+      s .pre .2,
+      s .good .1 .1 .1 .1 .1 .1 .0,
+    )
 
 slice-write-bytes : tie.Need-slice-write-bytes Inv-loop μ-loop
 unfolding byte
@@ -95,7 +124,9 @@ slice-write-bytes c =
 
 add-t : tie.Need-add-t Inv-loop μ-loop
 add-t c =
-    let k = c .before .before .before .before in omega (arith, few (k .before .before .before .before .pre .0) (k .before .tiles-along .ensures) (k .tiles-along2 .ensures), c .before .before .loop-test .taken)
+    let k = c .before .before .before .before in
+    let s = k .before .before .before .before in
+    omega (arith, few (s .pre .0) (k .before .tiles-along .ensures) (k .tiles-along2 .ensures), c .before .before .loop-test .taken)
 
 loop-less : tie.Need-loop-less Inv-loop μ-loop
 loop-less c = search needs

@@ -37,7 +37,9 @@ loop-again : tie.Need-loop-again Inv-loop μ-loop
 loop-again c = (omega arith, one-more _ _ _ (c .before .before .before .loop .inv .1) (c .if1 .left))
 
 returns-2 : tie.Need-returns-2 Inv-loop μ-loop
-returns-2 c = let e : c .before .loop .i ≡ c .before .before .args .n = omega arith in sym (sym (ap (allSkipped (c .before .before .args .skips .now) (c .before .before .args .at)) e) ∙ c .before .loop .inv .1)
+returns-2 c =
+    let e : c .before .loop .i ≡ c .before .before .args .n = omega arith in
+    sym (sym (ap (allSkipped (c .before .before .args .skips .now) (c .before .before .args .at)) e) ∙ c .before .loop .inv .1)
 
 pub all-skipped-spec : {M : Type 1} → statement M
 all-skipped-spec =

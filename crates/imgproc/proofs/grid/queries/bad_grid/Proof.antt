@@ -69,7 +69,9 @@ returns-6 c =
     let k = m .before .before in
     let h = height-fine (k .before .before) in
     let w = width-fine (k .before .before .before .before) in
-    ap (λ (n : ℕ). not (eqb (c .before .before .before .before .before .before .before .before .before .before .before .before .before .args .grid .«tiles_y») n)) (c .before .tiles-along2 .ensures)
+    ap
+    (λ (n : ℕ). not (eqb (c .before .before .before .before .before .before .before .before .before .before .before .before .before .args .grid .«tiles_y») n))
+    (c .before .tiles-along2 .ensures)
     ∙ simp (w, h, ne-eqb _ _ (k .if3 .left), ne-eqb _ _ (m .if4 .left), eq-eqb _ _ (f .if5 .left ∙ f .before .before .tiles-along .ensures))
 
 pub bad-grid-spec : {M : Type 1} → statement M

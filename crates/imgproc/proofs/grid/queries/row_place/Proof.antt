@@ -20,15 +20,19 @@ returns c = place-refused _ (c .before .before .before .check-query .ensures) (c
 enum-told : tie.Need-enum-told
 enum-told c = search needs
 
--- the question was taken
-taken : (c : tie.After-enum-told) → Asked (c .before .before .before .before .args .grid) (c .before .before .before .before .args .len) (ltb (c .before .before .before .before .args .y) (c .before .before .before .before .args .grid .height))
-taken c = asked _ _ _ (sym (c .before .before .check-query .ensures) ∙ c .enum-told .given .1)
+-- the query was accepted
+accepted : (c : tie.After-enum-told)
+    → let a = c .before .before .before .before .args in
+    Asked (a .grid) (a .len) (ltb (a .y) (a .grid .height))
+accepted c = asked _ _ _ (sym (c .before .before .check-query .ensures) ∙ c .enum-told .given .1)
 
 div-t7 : tie.Need-div-t7
-div-t7 c = taken (c .before) .grid .tile-height
+div-t7 c = accepted (c .before) .grid .tile-height
 
 mul-t8 : tie.Need-mul-t8
-mul-t8 c = let a = taken (c .before .before) in omega (arith, few-tiles (a .grid), tile-row (a .grid) (c .before .before .before .before .before .before .args .y) (ltb-true _ _ (a .there)))
+mul-t8 c =
+    let a = accepted (c .before .before) in
+    omega (arith, few-tiles (a .grid), tile-row (a .grid) (c .before .before .before .before .before .before .args .y) (ltb-true _ _ (a .there)))
 
 returns-2 : tie.Need-returns-2
 returns-2 c = place-there _ (c .before .before .before .before .check-query .ensures) (c .before .before .enum-told .given .1)

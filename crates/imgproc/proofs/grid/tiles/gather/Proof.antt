@@ -17,7 +17,7 @@ enum-told-2 c = search needs
 returns : tie.Need-returns
 returns c =
     let l = c .before .before in
-    absurd (kept-taken (l .before .before .before .pre .0) (sym (l .validate-layout .ensures) ∙ c .enum-told2 .given .1))
+    absurd (kept-taken (l .before .before .before .pre .layout) (sym (l .validate-layout .ensures) ∙ c .enum-told2 .given .1))
 
 gather-tiles-requires : tie.Need-gather-tiles-requires
 gather-tiles-requires c κs = c .before .before .before .before .before .before .pre

@@ -3,19 +3,16 @@ use Prim.Native.Nat.{ℕ, _-_, _/_, _%_, _≤_}
 use mathlib.Core.Path.{ap, _∙_}
 use native.Mathlib.Omega.{arith}
 use Rattle.image.specs.Plane.{pixel}
-use Rattle.imgproc.specs.Grid.{tilesX}
 use Rattle.imgproc.specs.Tiles.{numbersIn, tile}
 use Rattle.imgproc.proofs.grid.tiles.Counts.{total, some, few, column, row}
-use Rattle.imgproc.proofs.grid.tiles.Gathering.{StoredTo, stored-none, stored-more, gathered-all}
+use Rattle.imgproc.proofs.grid.tiles.Gathering.{tilesOf, StoredTo, stored-none, stored-more, gathered-all}
 use borrow.Author.Needs.{needs}
 use Rattle.imgproc.proofs.grid.tiles.gather_tiles.Statement.{statement}
 use Rattle.imgproc.proofs.grid.tiles.gather_tiles.Tie as tie
 
 abbrev Inv-loop : tie.InvT-loop
 Inv-loop src geometry config workspace₀ at tiles-x tiles-y total t₀ workspace t =
-    let across = tilesX config (geometry .width) in
-    (t ≤ total)
-    × StoredTo (λ k. numbersIn (pixel src (geometry .stride)) (tile config (geometry .width) (geometry .height) (k % across) (k / across))) at t workspace₀ workspace
+    (t ≤ total) × StoredTo (tilesOf src geometry config) at t workspace₀ workspace
 
 abbrev μ-loop : tie.MeasureT-loop
 μ-loop src geometry config workspace₀ at tiles-x tiles-y total t₀ workspace t = total - t
@@ -27,7 +24,7 @@ tiles-along-requires-2 : tie.Need-tiles-along-requires-2 Inv-loop μ-loop
 tiles-along-requires-2 c κs = search needs
 
 mul-total : tie.Need-mul-total Inv-loop μ-loop
-mul-total c = omega (arith, few (c .before .before .before .before .pre .1) (c .before .tiles-along .ensures) (c .tiles-along2 .ensures))
+mul-total c = omega (arith, few (c .before .before .before .before .pre .sized) (c .before .tiles-along .ensures) (c .tiles-along2 .ensures))
 
 loop-holds : tie.Need-loop-holds Inv-loop μ-loop
 loop-holds c = (omega arith, stored-none _ _ _)
@@ -35,7 +32,7 @@ loop-holds c = (omega arith, stored-none _ _ _)
 rem-tile-numbers : tie.Need-rem-tile-numbers Inv-loop μ-loop
 rem-tile-numbers c =
     let k = c .before .before in
-    let z = k .before .before .before .before .pre .1 in
+    let z = k .before .before .before .before .pre .sized in
     let X = k .before .tiles-along .ensures in
     let Y = k .tiles-along2 .ensures in
     some z X Y
@@ -43,7 +40,7 @@ rem-tile-numbers c =
 div-tile-numbers : tie.Need-div-tile-numbers Inv-loop μ-loop
 div-tile-numbers c =
     let k = c .before .before in
-    let z = k .before .before .before .before .pre .1 in
+    let z = k .before .before .before .before .pre .sized in
     let X = k .before .tiles-along .ensures in
     let Y = k .tiles-along2 .ensures in
     some z X Y
@@ -52,15 +49,15 @@ tile-numbers-requires : tie.Need-tile-numbers-requires Inv-loop μ-loop
 tile-numbers-requires c κs =
     let k = c .before .before in
     let s = k .before .before .before .before in
-    let z = k .before .before .before .before .pre .1 in
+    let z = k .before .before .before .before .pre .sized in
     let X = k .before .tiles-along .ensures in
     let Y = k .tiles-along2 .ensures in
-    (s .pre .0, s .pre .1, column z X Y (c .before .loop .t), row z X Y (c .before .loop .t) (c .loop-test .taken))
+    (s .pre .layout, s .pre .sized, column z X Y (c .before .loop .t), row z X Y (c .before .loop .t) (c .loop-test .taken))
 
 mul-store : tie.Need-mul-store Inv-loop μ-loop
 mul-store c =
     let k = c .before .before .before .before in
-    let z = k .before .before .before .before .pre .1 in
+    let z = k .before .before .before .before .pre .sized in
     let X = k .before .tiles-along .ensures in
     let Y = k .tiles-along2 .ensures in
     omega (arith, few z X Y, c .before .before .loop-test .taken)
@@ -68,24 +65,24 @@ mul-store c =
 add-store : tie.Need-add-store Inv-loop μ-loop
 add-store c =
     let k = c .before .before .before .before in
-    let z = k .before .before .before .before .pre .1 in
+    let z = k .before .before .before .before .pre .sized in
     let X = k .before .tiles-along .ensures in
     let Y = k .tiles-along2 .ensures in
-    omega (arith, few z X Y, total z X Y, c .before .before .loop-test .taken, k .before .before .before .before .pre .2)
+    omega (arith, few z X Y, total z X Y, c .before .before .loop-test .taken, k .before .before .before .before .pre .room)
 
 store-requires : tie.Need-store-requires Inv-loop μ-loop
 store-requires c κs =
     let k = c .before .before .before .before in
-    let z = k .before .before .before .before .pre .1 in
+    let z = k .before .before .before .before .pre .sized in
     let X = k .before .tiles-along .ensures in
     let Y = k .tiles-along2 .ensures in
-    omega (arith, total z X Y, c .before .before .loop-test .taken, k .before .before .before .before .pre .2, c .before .before .before .loop .inv .1 .long)
+    omega (arith, total z X Y, c .before .before .loop-test .taken, k .before .before .before .before .pre .room, c .before .before .before .loop .inv .1 .long)
 
 add-t : tie.Need-add-t Inv-loop μ-loop
 add-t c =
     let i = c .before .before .before .before .before in
     let k = i .before .before in
-    let z = k .before .before .before .before .pre .1 in
+    let z = k .before .before .before .before .pre .sized in
     let X = k .before .tiles-along .ensures in
     let Y = k .tiles-along2 .ensures in
     omega (arith, few z X Y, i .loop-test .taken)
@@ -115,12 +112,12 @@ returns c =
     let k = c .before .before in
     let s = k .before .before .before .before in
     let l = c .before .loop in
-    let z = k .before .before .before .before .pre .1 in
+    let z = k .before .before .before .before .pre .sized in
     let X = k .before .tiles-along .ensures in
     let Y = k .tiles-along2 .ensures in
-    gathered-all (s .args .src .now) (s .args .geometry) (s .args .config) (s .args .at) (l .t) _ (l .workspace)
+    gathered-all _ (l .t) (l .workspace)
     (λ i. omega (arith, k .before .before .before .shared-slice-known .given i))
-    (s .pre .2)
+    (s .pre)
     (omega (arith, total z X Y, l .inv .0, c .loop-test .left))
     (l .inv .1)
 

@@ -21,7 +21,10 @@ add-t7 : tie.Need-add-t7
 add-t7 c = search needs
 
 returns : tie.Need-returns
-returns c = same _ _ (c .before .before .before .before .before .before .before .min-of .ensures) (c .before .before .before .before .before .before .max-of .ensures) refl refl refl
+returns c =
+    same _ _
+    (c .before .before .before .before .before .before .before .min-of .ensures)
+    (c .before .before .before .before .before .before .max-of .ensures) refl refl refl
 
 pub join-spec : {M : Type 1} → statement M
 join-spec = tie.close (tie.spec min-of-requires max-of-requires add-t5 add-t6 add-t7 returns)

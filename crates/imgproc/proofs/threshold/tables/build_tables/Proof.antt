@@ -10,7 +10,8 @@ use Rattle.imgproc.proofs.threshold.tables.build_tables.Statement.{stat
 use Rattle.imgproc.proofs.threshold.tables.build_tables.Tie as tie
 
 abbrev Inv-loop : tie.InvT-loop
-Inv-loop src geometry workspace₀ at y₀ workspace y = (y ≤ geometry .height) × ((length workspace ≡ length workspace₀) × TableRows src geometry at (y + 1) workspace)
+Inv-loop src geometry workspace₀ at y₀ workspace y =
+    (y ≤ geometry .height) × ((length workspace ≡ length workspace₀) × TableRows src geometry at (y + 1) workspace)
 
 abbrev μ-loop : tie.MeasureT-loop
 μ-loop src geometry workspace₀ at y₀ workspace y = geometry .height - y
@@ -23,7 +24,8 @@ loop-holds c = (omega arith, (refl, c .before .before .table-top .ensures))
 
 table-row-requires : tie.Need-table-row-requires Inv-loop μ-loop
 table-row-requires c κs =
-    let l = c .before .before .before .loop in (c .before .before .before .before .before .before .before .before .before .before .pre .0, (c .before .if1 .taken, l .inv .1 .1))
+    let l = c .before .before .before .loop in
+    (c .before .before .before .before .before .before .before .before .before .before .pre .0, (c .before .if1 .taken, l .inv .1 .1))
 
 add-y : tie.Need-add-y Inv-loop μ-loop
 add-y c = search needs

@@ -10,7 +10,19 @@ use Rattle.image.specs.Layout.{sideLimit}
 use Rattle.image.specs.RowLaws.{row-long, row-picture}
 use Rattle.imgproc.specs.Sums.{squared}
 use Rattle.imgproc.specs.Tables.{pixelsOf}
-use Rattle.imgproc.proofs.threshold.tables.Entries.{RowSoFar, rows-fit, pixel-byte, box-small, row-start, row-end, row-step, above-sum, above-square, s-small, q-small}
+use Rattle.imgproc.proofs.threshold.tables.Entries.{
+  RowSoFar,
+  rows-fit,
+  pixel-byte,
+  box-small,
+  row-start,
+  row-end,
+  row-step,
+  above-sum,
+  above-square,
+  s-small,
+  q-small,
+}
 use Rattle.imgproc.proofs.threshold.tables.table_row.Statement.{statement}
 use Rattle.imgproc.proofs.threshold.tables.table_row.Tie as tie
 
@@ -22,7 +34,10 @@ abbrev μ-loop : tie.MeasureT-loop
 μ-loop src geometry y workspace₀ at wide squares row above below sum₀ sum-sq₀ x₀ workspace sum sum-sq x = geometry .width - x
 
 -- at entry: the rows beside row y lie in each table, and both tables in the workspace
-fits : (s : tie.Start Inv-loop μ-loop) → let g = s .args .geometry in let wide = g .width + 1 in (s .args .y * wide + wide + wide ≤ wide * (g .height + 1)) × (s .args .at + 2 * (wide * (g .height + 1)) ≤ length (now (s .args .workspace)))
+fits : (s : tie.Start Inv-loop μ-loop)
+    → let g = s .args .geometry in
+    let wide = g .width + 1 in
+    (s .args .y * wide + wide + wide ≤ wide * (g .height + 1)) × (s .args .at + 2 * (wide * (g .height + 1)) ≤ length (now (s .args .workspace)))
 fits s = (rows-fit (s .args .geometry .width) (s .args .geometry .height) (s .args .y) (s .pre .1 .0), s .pre .1 .1 .room)
 
 abbrev pixels : tie.Start Inv-loop μ-loop → ℕ → ℕ → ℕ
@@ -34,16 +49,21 @@ start t = t .before .before .before .before .before .before .before .before
 
 -- each pixel is a byte
 bytes : (t : tie.Then1 Inv-loop μ-loop) (i j : ℕ) → i < start t .args .geometry .width → j < start t .args .geometry .height → pixels (start t) i j ≤ 255
-bytes t = pixel-byte (now (start t .args .src)) (start t .args .geometry) (λ i. omega (arith, t .before .before .before .before .before .before .before .shared-slice-known .given i))
+bytes t =
+    pixel-byte (now (start t .args .src)) (start t .args .geometry)
+    (λ i. omega (arith, t .before .before .before .before .before .before .before .shared-slice-known .given i))
 
 -- the byte that is read is pixel (x, y)
-value-is : (t : tie.Then1 Inv-loop μ-loop) → getD (now (t .before .before .before .row .result)) (t .before .before .loop .x) 0 ≡ pixels (start t) (t .before .before .loop .x) (start t .args .y)
+value-is : (t : tie.Then1 Inv-loop μ-loop)
+    → getD (now (t .before .before .before .row .result)) (t .before .before .loop .x) 0 ≡ pixels (start t) (t .before .before .loop .x) (start t .args .y)
 value-is t =
     let s = start t in
-    row-picture (now (s .args .src)) (s .args .geometry) (s .pre .0) (s .args .y) (s .pre .1 .0) (t .before .before .before .row .ensures .bytes) (t .before .before .loop .x) (t .if1 .taken)
+    row-picture (now (s .args .src)) (s .args .geometry) (s .pre .0) (s .args .y) (s .pre .1 .0)
+    (t .before .before .before .row .ensures .bytes) (t .before .before .loop .x) (t .if1 .taken)
 
 -- it and its square are small
-value-small : (t : tie.Then1 Inv-loop μ-loop) → let v = getD (now (t .before .before .before .row .result)) (t .before .before .loop .x) 0 in (v ≤ 255) × (v * v ≤ 65025)
+value-small : (t : tie.Then1 Inv-loop μ-loop)
+    → let v = getD (now (t .before .before .before .row .result)) (t .before .before .loop .x) 0 in (v ≤ 255) × (v * v ≤ 65025)
 value-small t =
     let s = start t in
     let b = bytes t (t .before .before .loop .x) (s .args .y) (t .if1 .taken) (s .pre .1 .0) in
@@ -77,9 +97,12 @@ above-small t =
     let m = s .pre .1 .0 in
     let x1 : l .x + 1 ≤ g .width = omega (arith, t .if1 .taken) in (
       rw (above-sum (pixels s) _ _ _ _ m _ (l .workspace) _ _ _ (l .inv) (t .if1 .taken))
-          (box-small (pixels s) (g .width) (g .height) (l .x + 1) (s .args .y) (λ i j a b. le-trans (bytes t i j a b) (omega arith)) x1 (le-of-lt m) (k .small-width) (k .small-height)),
+          (box-small (pixels s) (g .width) (g .height) (l .x + 1) (s .args .y)
+          (λ i j a b. le-trans (bytes t i j a b) (omega arith)) x1 (le-of-lt m) (k .small-width) (k .small-height)),
       rw (above-square (pixels s) _ _ _ _ m _ (l .workspace) _ _ _ (l .inv) (t .if1 .taken))
-          (box-small (squared (pixels s)) (g .width) (g .height) (l .x + 1) (s .args .y) (λ i j a b. mul-le-mul (bytes t i j a b) (bytes t i j a b)) x1 (le-of-lt m) (k .small-width) (k .small-height)),
+          (box-small (squared (pixels s)) (g .width) (g .height) (l .x + 1) (s .args .y)
+          (λ i j a b. mul-le-mul (bytes t i j a b) (bytes t i j a b)) x1 (le-of-lt m) (k .small-width)
+          (k .small-height)),
     )
 
 -- the workspace keeps its length
@@ -132,7 +155,11 @@ shared-slice-read-value : tie.Need-shared-slice-read-value Inv-loop μ-loop
 shared-slice-read-value c =
     let t = c .before in
     let s = start t in
-    omega (arith, row-long (now (s .args .src)) (s .args .geometry) (s .pre .0) (s .args .y) (s .pre .1 .0) (t .before .before .before .row .ensures .bytes), t .if1 .taken)
+    omega (
+      arith,
+      row-long (now (s .args .src)) (s .args .geometry) (s .pre .0) (s .args .y) (s .pre .1 .0) (t .before .before .before .row .ensures .bytes),
+      t .if1 .taken,
+    )
 
 cast-value : tie.Need-cast-value Inv-loop μ-loop
 cast-value c = omega (arith, value-small (c .before))
@@ -201,7 +228,8 @@ mul-workspace-4 : tie.Need-mul-workspace-4 Inv-loop μ-loop
 mul-workspace-4 c = omega (arith, fits (start (c .before .before .before)), long (c .before .before .before), c .before .before .before .if1 .taken)
 
 slice-write-workspace-4 : tie.Need-slice-write-workspace-4 Inv-loop μ-loop
-slice-write-workspace-4 c = simp length-set (omega (arith, fits (start (c .before .before .before)), long (c .before .before .before), c .before .before .before .if1 .taken))
+slice-write-workspace-4 c =
+    simp length-set (omega (arith, fits (start (c .before .before .before)), long (c .before .before .before), c .before .before .before .if1 .taken))
 
 loop-less : tie.Need-loop-less Inv-loop μ-loop
 loop-less c = omega (arith, c .before .before .before .if1 .taken)

@@ -35,7 +35,8 @@ add-squares-2 : tie.Need-add-squares-2 Inv-loop μ-loop
 add-squares-2 c = omega arith
 
 loop-holds : tie.Need-loop-holds Inv-loop μ-loop
-loop-holds c = (omega arith, (refl, both-none (pixelsOf (now (c .before .before .args .src)) (c .before .before .args .geometry)) _ _ _ _ (c .before .before .pre .1)))
+loop-holds c =
+    (omega arith, (refl, both-none (pixelsOf (now (c .before .before .args .src)) (c .before .before .args .geometry)) _ _ _ _ (c .before .before .pre .1)))
 
 add-workspace : tie.Need-add-workspace Inv-loop μ-loop
 add-workspace c = omega (arith, first (c .before .before .before .before .before))
@@ -70,7 +71,9 @@ loop-again c =
       omega arith,
       (
         simp length-set (l .inv .1 .0),
-        both-more f _ _ _ (l .i) 0 0 (l .inv .1 .1) (omega (arith, first s)) (entry-top f (w + 1) (l .i) (omega arith)) (entry-top (squared f) (w + 1) (l .i) (omega arith)),
+        both-more f _ _ _ (l .i) 0 0 (l .inv .1 .1) (omega (arith, first s))
+            (entry-top f (w + 1) (l .i) (omega arith))
+            (entry-top (squared f) (w + 1) (l .i) (omega arith)),
       ),
     )
 
@@ -81,7 +84,9 @@ returns : tie.Need-returns Inv-loop μ-loop
 returns c =
     let l = c .before .before .loop in
     let a = c .before .before .before .before .before .args in
-    subst (λ (n : ℕ). Both (pixelsOf (now (a .src)) (a .geometry)) (a .geometry .width) (a .geometry .height) (a .at) n (l .workspace)) (omega arith) (l .inv .1 .1)
+    subst
+    (λ (n : ℕ). Both (pixelsOf (now (a .src)) (a .geometry)) (a .geometry .width) (a .geometry .height) (a .at) n (l .workspace))
+    (omega arith) (l .inv .1 .1)
 
 pub table-top-spec : {M : Type 1} → statement M
 table-top-spec =

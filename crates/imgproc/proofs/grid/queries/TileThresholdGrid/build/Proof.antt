@@ -1,13 +1,22 @@
 -- `build` meets its contract. Assumes nothing.
 use Rattle.imgproc.specs.GridCalls.{BuildLent}
-use Rattle.imgproc.proofs.grid.Building.{layout-refused, kept, rest-refused, sized, rooms, built}
+use Rattle.imgproc.proofs.grid.Building.{layout-refused, kept, rest-refused, ready, built}
 use borrow.Author.Needs.{needs}
 use Rattle.imgproc.proofs.grid.queries.TileThresholdGrid.build.Statement.{statement}
 use Rattle.imgproc.proofs.grid.queries.TileThresholdGrid.build.Tie as tie
 
 -- what was lent
 abbrev lent : tie.Start → BuildLent
-lent s = let a = s .args in record { src = a .src .now; source = a .geometry; settings = a .config; workspace = a .workspace .now; thresholds = a .thresholds .now; skips = a .skips .now }
+lent s =
+    let a = s .args in
+    record {
+      src = a .src .now;
+      source = a .geometry;
+      settings = a .config;
+      workspace = a .workspace .now;
+      thresholds = a .thresholds .now;
+      skips = a .skips .now;
+    }
 
 validate-layout-requires : tie.Need-validate-layout-requires
 validate-layout-requires c κs = search needs
@@ -24,7 +33,8 @@ refusal-requires c κs = search needs
 returns : tie.Need-returns
 returns c =
     let l = c .before .before .before in
-    let a = l .before .before .before .before .before in layout-refused (lent a) (l .validate-layout .ensures) (c .before .enum-told .given .1) (c .refusal .ensures)
+    let a = l .before .before .before .before .before in
+    layout-refused (lent a) (l .validate-layout .ensures) (c .before .enum-told .given .1) (c .refusal .ensures)
 
 check-build-requires : tie.Need-check-build-requires
 check-build-requires c κs =
@@ -39,7 +49,8 @@ returns-2 : tie.Need-returns-2
 returns-2 c =
     let d = c .before .before .before in
     let l = d .before .before .before .before in
-    let a = l .before .before .before .before .before in rest-refused (lent a) (l .validate-layout .ensures) (d .before .before .layout .given .1) (d .check-build .ensures) (c .before .check .given .1)
+    let a = l .before .before .before .before .before in
+    rest-refused (lent a) (l .validate-layout .ensures) (d .before .before .layout .given .1) (d .check-build .ensures) (c .before .check .given .1)
 
 enum-told-2 : tie.Need-enum-told-2
 enum-told-2 c = search needs
@@ -50,23 +61,25 @@ fill-requires c κs =
     let l = d .before .before .before .before in
     let a = l .before .before .before .before .before in
     let v = d .before .before .layout .given .1 in
-    let t = c .before .before .before .enum-told2 .given .1 in (
-      kept (lent a) (l .validate-layout .ensures) v,
-      sized (lent a) (l .validate-layout .ensures) v (d .check-build .ensures) t,
-      rooms (lent a) (l .validate-layout .ensures) v (d .check-build .ensures) t,
-    )
+    ready (lent a) (l .validate-layout .ensures) v (d .check-build .ensures) (c .before .before .before .enum-told2 .given .1)
 
 tiles-along-requires : tie.Need-tiles-along-requires
 tiles-along-requires c κs =
     let d = c .before .before .before .before .before .before .before .before .before .before .before .before in
     let l = d .before .before .before .before in
-    let a = l .before .before .before .before .before in sized (lent a) (l .validate-layout .ensures) (d .before .before .layout .given .1) (d .check-build .ensures) (c .before .before .before .before .before .before .before .before .before .before .enum-told2 .given .1) .tile-width
+    let a = l .before .before .before .before .before in
+    let v = d .before .before .layout .given .1 in
+    let t = c .before .before .before .before .before .before .before .before .before .before .enum-told2 .given .1 in
+    ready (lent a) (l .validate-layout .ensures) v (d .check-build .ensures) t .sized .tile-width
 
 tiles-along-requires-2 : tie.Need-tiles-along-requires-2
 tiles-along-requires-2 c κs =
     let d = c .before .before .before .before .before .before .before .before .before .before .before .before .before in
     let l = d .before .before .before .before in
-    let a = l .before .before .before .before .before in sized (lent a) (l .validate-layout .ensures) (d .before .before .layout .given .1) (d .check-build .ensures) (c .before .before .before .before .before .before .before .before .before .before .before .enum-told2 .given .1) .tile-height
+    let a = l .before .before .before .before .before in
+    let v = d .before .before .layout .given .1 in
+    let t = c .before .before .before .before .before .before .before .before .before .before .before .enum-told2 .given .1 in
+    ready (lent a) (l .validate-layout .ensures) v (d .check-build .ensures) t .sized .tile-height
 
 same-length : tie.Need-same-length
 same-length c = search needs
@@ -82,7 +95,12 @@ returns-3 c =
     let d = c .before .before .before .before .before .before .before .before .before .before .before .before .before .before in
     let l = d .before .before .before .before in
     let a = l .before .before .before .before .before in
-    built (lent a) (l .validate-layout .ensures) (d .before .before .layout .given .1) (d .check-build .ensures) (c .before .before .before .before .before .before .before .before .before .before .before .before .enum-told2 .given .1) (c .before .before .before .before .before .before .before .before .fill .ensures) (c .before .tiles-along .ensures) (c .tiles-along2 .ensures)
+    let v = d .before .before .layout .given .1 in
+    let t = c .before .before .before .before .before .before .before .before .before .before .before .before .enum-told2 .given .1 in
+    built (lent a) (l .validate-layout .ensures) v (d .check-build .ensures) t
+    (c .before .before .before .before .before .before .before .before .fill .ensures)
+    (c .before .tiles-along .ensures)
+    (c .tiles-along2 .ensures)
 
 pub build-spec : {M : Type 1} → statement M
 build-spec =

@@ -31,13 +31,20 @@ place-refusal-requires : tie.Need-place-refusal-requires
 place-refusal-requires c κs = search needs
 
 returns : tie.Need-returns
-returns c = let s = c .before .before .before .before .before in answer-refused (check s) (tile s) (c .before .before .before .row-place .ensures) _ (c .before .enum-told .given .1) (c .place-refusal .ensures)
+returns c =
+    let s = c .before .before .before .before .before in
+    answer-refused (check s) (tile s) (c .before .before .before .row-place .ensures) _ (c .before .enum-told .given .1) (c .place-refusal .ensures)
 
 all-skipped-requires : tie.Need-all-skipped-requires
 all-skipped-requires c κs = row-within _ _ _ _ (sym (c .before .before .before .row-place .ensures) ∙ c .before .place .given .1)
 
 returns-2 : tie.Need-returns-2
-returns-2 c = ap accepted (c .all-skipped .ensures) ∙ answer-there (check (c .before .before .before .before .before .before)) (tile (c .before .before .before .before .before .before)) (c .before .before .before .before .row-place .ensures) (λ i. allSkipped (c .before .before .before .before .before .before .args .skips .now) i (c .before .before .before .before .before .before .args .self .«tiles_x»)) (c .before .before .place .given .1)
+returns-2 c =
+    let s = c .before .before .before .before .before .before in
+    ap accepted (c .all-skipped .ensures)
+    ∙ answer-there (check s) (tile s) (c .before .before .before .before .row-place .ensures)
+    (λ i. allSkipped (s .args .skips .now) i (s .args .self .«tiles_x»))
+    (c .before .before .place .given .1)
 
 pub row-all-skip-spec : {M : Type 1} → statement M
 row-all-skip-spec =

@@ -30,13 +30,19 @@ place-refusal-requires : tie.Need-place-refusal-requires
 place-refusal-requires c κs = search needs
 
 returns : tie.Need-returns
-returns c = let s = c .before .before .before .before .before in answer-refused (check s) (tile s) (c .before .before .before .pixel-place .ensures) _ (c .before .enum-told .given .1) (c .place-refusal .ensures)
+returns c =
+    let s = c .before .before .before .before .before in
+    answer-refused (check s) (tile s) (c .before .before .before .pixel-place .ensures) _ (c .before .enum-told .given .1) (c .place-refusal .ensures)
 
 shared-slice-read-t10 : tie.Need-shared-slice-read-t10
 shared-slice-read-t10 c = pixel-within _ _ _ _ _ (sym (c .before .before .before .before .pixel-place .ensures) ∙ c .before .before .place .given .1)
 
 returns-2 : tie.Need-returns-2
-returns-2 c = answer-there (check (c .before .before .before .before .before .before)) (tile (c .before .before .before .before .before .before)) (c .before .before .before .before .pixel-place .ensures) (λ i. getD (c .before .before .before .before .before .before .args .thresholds .now) i 0) (c .before .before .place .given .1)
+returns-2 c =
+    let s = c .before .before .before .before .before .before in
+    answer-there (check s) (tile s) (c .before .before .before .before .pixel-place .ensures)
+    (λ i. getD (s .args .thresholds .now) i 0)
+    (c .before .before .place .given .1)
 
 pub threshold-at-spec : {M : Type 1} → statement M
 threshold-at-spec =

@@ -1,4 +1,4 @@
--- v ≥ i + 0.5 for an i has it for each below, so the count of such i is the first i that has it not. Assumes nothing.
+-- The test v ≥ i + 0.5 is monotone in i, so the count of such i is the first i that fails it: what bisection finds. Assumes nothing.
 use mathlib.Core.Path.{_≡_, refl, sym, ap, _∙_}
 use mathlib.Core.Bool.{Bool, true, false, _&&_, _||_, true≢false}
 use mathlib.Core.Logic.{⊎-elim}
@@ -23,7 +23,9 @@ not-above a b e = go (decLe a b)
   where
     go : Dec (a ≤ b) → a ≤ b
     go (yes h) = h
-    go (no n) = let f : (ltb a b || (eqb a b && true)) ≡ false = simp (le-ltb a b (omega (arith, n)), ne-eqb a b (λ q. n (omega arith))) in absurd (true≢false (sym e ∙ f))
+    go (no n) =
+        let f : (ltb a b || (eqb a b && true)) ≡ false = simp (le-ltb a b (omega (arith, n)), ne-eqb a b (λ q. n (omega arith))) in
+        absurd (true≢false (sym e ∙ f))
 
 -- no half is at most a value below zero
 minus : (a b : ℕ) → 0 < a → (false || (eqb a b && (false || eqb a 0))) ≡ false
@@ -43,7 +45,8 @@ module _ (i j : ℕ) (h : i ≤ j) where
       let a = (2 * j + 1) * up (negsuc 0) * down d in
       absurd (true≢false (sym e ∙ minus a (n * up d * down (negsuc 0)) (mul-pos (mul-pos (omega arith) (up-pos (negsuc 0))) (down-pos d))))
   falls (fin false n d) e =
-      let m : (2 * i + 1) * up (negsuc 0) * down d ≤ (2 * j + 1) * up (negsuc 0) * down d = mul-le-mul-right (down d) (mul-le-mul-right (up (negsuc 0)) (omega arith)) in
+      let m : (2 * i + 1) * up (negsuc 0) * down d ≤ (2 * j + 1) * up (negsuc 0) * down d =
+      mul-le-mul-right (down d) (mul-le-mul-right (up (negsuc 0)) (omega arith)) in
       let k = not-above ((2 * j + 1) * up (negsuc 0) * down d) (n * up d * down (negsuc 0)) e in
       at-most ((2 * i + 1) * up (negsuc 0) * down d) (n * up d * down (negsuc 0)) (le-trans m k)
 
@@ -65,5 +68,6 @@ count-to v n (suc k) yes-es no-es =
     go c (yes l) = let t : bit (le (halfPast k) v) ≡ 1 = ap (λ (q : Bool). bit q) (yes-es k l) in omega arith
     go c (no l) = let t : bit (le (halfPast k) v) ≡ 0 = ap (λ (q : Bool). bit q) (no-es k (omega (arith, l)) (omega arith)) in omega (arith, l)
 
-pub count-is : (v : Float) (n : ℕ) → n ≤ 255 → ((i : ℕ) → i < n → le (halfPast i) v ≡ true) → ((i : ℕ) → n ≤ i → i < 255 → le (halfPast i) v ≡ false) → n ≡ countTo 255 v
+pub count-is : (v : Float) (n : ℕ) → n ≤ 255 → ((i : ℕ) → i < n → le (halfPast i) v ≡ true) → ((i : ℕ) → n ≤ i → i < 255 → le (halfPast i) v ≡ false)
+    → n ≡ countTo 255 v
 count-is v n s yes-es no-es = omega (arith, count-to v n 255 yes-es no-es)

@@ -1,8 +1,8 @@
--- `base` meets its contract. Assumes nothing.
+-- `base_of` meets its contract. Assumes nothing.
 use Rattle.imgproc.proofs.grid.base.Steps.{midrange-is, floats-are}
 use borrow.Author.Needs.{needs}
-use Rattle.imgproc.proofs.grid.base.base.Statement.{statement}
-use Rattle.imgproc.proofs.grid.base.base.Tie as tie
+use Rattle.imgproc.proofs.grid.base.base_of.Statement.{statement}
+use Rattle.imgproc.proofs.grid.base.base_of.Tie as tie
 
 enum-told : tie.Need-enum-told
 enum-told c = search needs
@@ -22,7 +22,7 @@ returns c = midrange-is (c .before .before .before .args .numbers) (c .before .e
 returns-2 : tie.Need-returns-2
 returns-2 c = floats-are (c .before .before .before .before .args .numbers) (c .before .before .method .given .1) (c .sauvola .ensures)
 
-pub base-spec : {M : Type 1} → statement M
-base-spec =
+pub base-of-spec : {M : Type 1} → statement M
+base-of-spec =
     tie.close
     (tie.spec enum-told midrange-requires enum-known-method sauvola-requires returns returns-2)
