@@ -14,7 +14,8 @@ sys.dont_write_bytecode = True
 import table
 from layout import laid
 from owner import numbers_file, owner_file
-from source import Code, Unread
+from source import Code, Unread, fields_of
+from terms import STRUCT
 from thin import called_file, says_file, sweep_file, thin_file
 
 ROOT = Path(__file__).resolve().parents[2]
@@ -28,12 +29,15 @@ def header(lead):
 
 def texts():
     """Generates each file. Returns the texts by path."""
-    code = Code((ROOT / table.SOURCE).read_text(), table.OWNERS)
+    fields = fields_of((ROOT / table.PLANES_SOURCE).read_text(), STRUCT)
+    code = Code((ROOT / table.SOURCE).read_text(), table.OWNERS, fields)
     proofs = f'Rattle.{table.CRATE}.proofs'
     paths = dict(
         here=f'{proofs}.{table.MODULE}',
         tally_proofs=f'{proofs}.{table.TALLY}',
         tally_specs=f'Rattle.{table.CRATE}.specs.declared.{table.TALLY}',
+        planes_proofs=f'{proofs}.{table.PLANES}',
+        planes_specs=f'Rattle.{table.CRATE}.specs.declared.{table.PLANES}',
         dotted=f'{table.CRATE}·{table.MODULE.replace(".", "·").replace("_", "-")}',
     )
     made = {

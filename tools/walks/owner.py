@@ -1,21 +1,22 @@
 """Writes the walks of the owners: functions that put a tally into a local, lend it to sweeps in turn, and return it."""
 
-from terms import Numbers, dashed, filled, listed, paired, subscript
+from terms import STRUCT, Numbers, Struct, dashed, filled, listed, paired, part, subscript
 from walk import HERE, Walk, typed
 
 
 class Places:
     """The locals of an owner's MIR. _0 is the result, _1 the tally, _2 the slice; then come the numbers; then the tally
-    that is lent, and what a sweep returns; then for each call a reference to the tally, a pointer, and the slice that
-    the sweep gets."""
+    that is lent, the structs that are made, and what a sweep returns; then for each call a reference to the tally, a
+    pointer, and the slice that the sweep gets."""
 
     def __init__(self, owner):
-        count = len(owner.names)
-        self.numbers = [f'_{3 + i}' for i in range(count)]
-        self.tally, self.unit = f'_{3 + count}', f'_{4 + count}'
+        count, made = len(owner.names), len(owner.made)
+        self.made = [f'_{4 + count + i}' for i in range(made)]
+        self.numbers = [*(f'_{3 + i}' for i in range(count)), *self.made]
+        self.tally, self.unit = f'_{3 + count}', f'_{4 + count + made}'
         self.address = f'l{subscript(3 + count)}'
-        self.calls = [[f'_{5 + count + 3 * k + j}' for j in range(3)] for k in range(len(owner.calls))]
-        self.count = 5 + count + 3 * len(owner.calls)
+        self.calls = [[f'_{5 + count + made + 3 * k + j}' for j in range(3)] for k in range(len(owner.calls))]
+        self.count = 5 + count + made + 3 * len(owner.calls)
 
 
 class Call:
@@ -71,6 +72,10 @@ def walk(owner, code, numbers):
     has = [numbers.typed(i) for i in range(len(numbers.all))]
     w.passes([typed('h₀', 'fits₀'), '(tt, (tt, (record { fits = room .0 }, tt)))', *has])
     w.assign(f'of-opd ! ({w.load("_1")})', places.tally, typed('h₀', 'fits₀'))
+    for made, place in zip(owner.made, places.made):
+        given = [number for _, _, number in made.fields]
+        has = Struct(STRUCT).typed(f'{dashed(made.name)} x', f'{dashed(made.name)}-fit x fit')
+        w.assign(f'agg ! ({w.parts(places.numbers[made.given], given)})', place, has)
     for call in calls:
         lend(w, call, places)
         call_sweep(w, call, places, f'known-{known[call.sweep.name]}')
@@ -184,6 +189,19 @@ def take_back(w, call, places):
     w.line()
 
 
+def made_part(made, named, numbers):
+    """A struct that is made, and that it fits."""
+    name, given = dashed(made.name), named[made.given]
+    record = '; '.join(f'{field} = {given} .{of}' for field, of, _ in made.fields)
+    fits = paired(f'f{part(i)}' for _, _, i in made.fields)
+    return (
+        f'abbrev pub {name} : Own → {STRUCT}\n{name} x = record {{ {record} }}',
+        f'pub {name}-fit : (x : Own) → OwnFit x → PlanesFit ({name} x)\n'
+        f'{name}-fit x fit = let f = LL.owed P.the-type P′.the-laws ({given}) _ ({numbers.fit(made.given)}) in'
+        f' LL.owes P.the-type P′.the-laws ({name} x) {fits}',
+    )
+
+
 def numbers_file(owner, code, paths, header):
     numbers = Numbers(owner.types)
     named = [f'{dashed(name)} x' for name in owner.names]
@@ -191,9 +209,14 @@ def numbers_file(owner, code, paths, header):
         f'abbrev pub {dashed(name)} : Own → {number.denoted}\n{named[i]} = {numbers.term(i)}'
         for i, (name, number) in enumerate(zip(owner.names, numbers.all))
     ]
+    made = [made_part(made, named, numbers) for made in owner.made]
+    parts += [term for term, _ in made]
+    named += [f'{dashed(made.name)} x' for made in owner.made]
+    fit_of = {i: numbers.fit(i) for i in numbers.sized}
+    fit_of.update((len(numbers.all) + i, f'{dashed(made.name)}-fit x fit') for i, made in enumerate(owner.made))
     calls = []
     for k, (_, given) in enumerate(owner.calls, 1):
-        fits = [numbers.fit(i) for i in given if i in numbers.sized]
+        fits = [fit_of[i] for i in given if i in fit_of]
         fit = paired(fits[:-1], fits[-1])
         calls.append(f'abbrev pub num-{k} : Own → Nums\nnum-{k} x = {paired(named[i] for i in given)}')
         calls.append(f'pub fit-{k} : (x : Own) → OwnFit x → NumsFit (num-{k} x)\nfit-{k} x fit = {fit}')
@@ -203,6 +226,7 @@ def numbers_file(owner, code, paths, header):
         used=code.used(owner.asked, owner.said),
         type=texts['type'],
         parts='\n\n'.join(parts),
+        made='\n\n'.join(fit for _, fit in made),
         fit_type=texts['fit_type'],
         calls='\n\n'.join(calls),
         asked=owner.over(owner.asked, named),
@@ -228,8 +252,9 @@ def owner_file(owner, code, facts, paths, header):
     texts = numbers.texts()
     sweeps = sweeps_of(owner, code)
     count = range(1, len(owner.calls) + 1)
+    made = [name for made in owner.made for name in (dashed(made.name), f'{dashed(made.name)}-fit')]
     triple = 'Triple 𝓤 ({} #call-{}) (Sweep Asks {} 𝓤 H A)'
-    none = [f'goes-none 𝓤 H A W 1 (λ _. {number.rust}) yes (λ κs y g. refl)' for number in numbers.all]
+    none = [f'goes-none 𝓤 H A W 1 (λ _. {number.row}) yes (λ κs y g. refl)' for number in numbers.all]
     whole = 'goes-none 𝓤 H A W 1 (λ _. T.the-row) yes (λ κs y g. refl)'
     texts.update(
         stays=paired(['stay-none (λ _. T.the-row) yes', 'gave-slice (0 ∷ []) tt (plain (λ _. u8))', *texts['stay']]),
@@ -239,7 +264,7 @@ def owner_file(owner, code, facts, paths, header):
         lasts=paired(['tt', 'zs', *texts['none']]),
         lengths=paired(['tt', 'long', *texts['none']]),
         walk=walk(owner, code, numbers),
-        nums=', '.join([*(f'num-{k}' for k in count), *(f'fit-{k}' for k in count)]),
+        nums=', '.join([*(f'num-{k}' for k in count), *(f'fit-{k}' for k in count), *made]),
         asks=', '.join(f'asks-{k}' for k in count),
         says=', '.join(sweep.says for _, sweep in sweeps),
         calls='\n'.join(used(i, sweep.name, paths) for i, sweep in sweeps),

@@ -2,6 +2,8 @@
 
 import re
 
+from terms import STRUCT
+
 
 class Unread(Exception):
     """Raised if the code has a form that the walks are not made for."""
@@ -46,6 +48,15 @@ def braced(text, start):
     raise Unread('a brace is not closed')
 
 
+def fields_of(text, name):
+    """The names of the fields of a struct."""
+    plain = re.sub(r'//.*', '', text)
+    found = re.search(rf'\bstruct {name} \{{', plain)
+    if not found:
+        raise Unread(f'no struct `{name}`')
+    return re.findall(r'(\w+):', braced(plain, found.end() - 1)[0])
+
+
 def read(text, name):
     """Returns the function of that name."""
     found = re.search(rf'\bfn {name}\s*\(', text)
@@ -59,7 +70,7 @@ def read(text, name):
             raise Unread(f'`{name}` has no `{word}`')
         inner, at = braced(text, brace)
         parts.append(inner)
-    claims = [re.search('⌜ (.*) ⌝', clause, re.DOTALL) for clause in parts[:2]]
+    claims = [re.search(r'⌜\s(.*)\s⌝', clause, re.DOTALL) for clause in parts[:2]]
     if not all(claims):
         raise Unread(f'the contract of `{name}` is no plain claim')
     asked, said = (' '.join(claim[1].split()) for claim in claims)
@@ -87,35 +98,54 @@ class Sweep(Function):
         self.says = self.name.removeprefix('sweep_').capitalize() + 'Say'
 
 
-class Owner(Function):
-    """An owner: `let mut t = tally; sweep(&mut t, slice, ..); ..; t`"""
+class Made:
+    """A struct that an owner makes of a struct that it is given: `let name = Struct { field: given.field, .. }`"""
 
-    def __init__(self, function):
+    def __init__(self, name, text, owner, fields):
+        parts = [re.fullmatch(r'(\w+): (\w+)\.(\w+)', part.strip()) for part in text.split(',') if part.strip()]
+        if not all(parts) or [part[1] for part in parts] != fields or {part[2] for part in parts} - set(owner.names):
+            raise Unread(f'`{name}` in `{owner.name}` is not made of the fields of a struct that it is given')
+        if len({part[2] for part in parts}) != 1:
+            raise Unread(f'`{name}` in `{owner.name}` is made of more than one struct')
+        self.name, self.given = name, owner.names.index(parts[0][2])
+        # For each field its name, and the name and the number of the field that it is made of.
+        self.fields = [(part[1], part[3], fields.index(part[3])) for part in parts]
+
+
+class Owner(Function):
+    """An owner: `let mut t = tally; let name = Struct { .. }; ..; sweep(&mut t, slice, ..); ..; t`"""
+
+    def __init__(self, function, fields):
         self.__dict__.update(function.__dict__)
         if self.tally_is_lent:
             raise Unread(f'`{self.name}` is lent the tally that it should own')
         first, *statements, last = [statement.strip() for statement in self.body.split(';')]
-        self.calls = []
+        self.made, self.calls = [], []
         for statement in statements:
+            struct = re.fullmatch(rf'let (\w+) = {STRUCT} \{{(.*)\}}', statement, re.DOTALL)
+            if struct and not self.calls:
+                self.made.append(Made(struct[1], struct[2], self, fields))
+                continue
             sweep, (tally, lent, *numbers) = called(statement, self.name)
             if (first, tally, lent, last) != (f'let mut {last} = {self.tally}', f'&mut {last}', self.slice, last):
                 raise Unread(f'`{self.name}` does more than lend one tally')
-            if not set(numbers) <= set(self.names):
+            known = [*self.names, *(made.name for made in self.made)]
+            if not set(numbers) <= set(known):
                 raise Unread(f'`{self.name}` gives `{sweep}` something else than its own numbers')
-            self.calls.append((sweep, [self.names.index(number) for number in numbers]))
+            self.calls.append((sweep, [known.index(number) for number in numbers]))
 
 
 class Code:
     """The owners of a table and the sweeps that they call."""
 
-    def __init__(self, text, owners):
+    def __init__(self, text, owners, fields):
         plain = re.sub(r'//.*', '', text)
         self.uses = {
             name.strip(): path
             for path, names in re.findall(r'ghost use (.*?)\.\{(.*?)\};', plain, re.DOTALL)
             for name in names.split(',')
         }
-        self.owners = [Owner(read(plain, name)) for name in owners]
+        self.owners = [Owner(read(plain, name), fields) for name in owners]
         names = dict.fromkeys(sweep for owner in self.owners for sweep, _ in owner.calls)
         self.sweeps = {name: Sweep(read(plain, name)) for name in names}
         first = next(iter(self.sweeps.values()))

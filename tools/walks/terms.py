@@ -3,6 +3,10 @@
 import re
 from pathlib import Path
 
+import table
+
+# The name of the struct that is given by value.
+STRUCT = table.PLANES.rpartition('.')[2]
 # The bits of each number type, and its width in the MIR.
 WIDTHS = {'u8': 8, 'u16': 16, 'u32': 32, 'u64': 64, 'usize': 64}
 
@@ -54,7 +58,7 @@ class Number:
     """The type of a plain parameter: a number of some width, or a bool."""
 
     def __init__(self, rust):
-        self.rust = rust
+        self.rust = self.row = rust
         self.is_bool = rust == 'bool'
         self.width = None if self.is_bool else f'w{WIDTHS[rust]}'
         self.denoted = 'Bool' if self.is_bool else 'ℕ'
@@ -75,12 +79,45 @@ class Number:
         makes = f'{self.rust} (Is {self.rust}) (uint-makes 𝓤 H A W {self.width})'
         return f'owned ! {makes} ({term}) _ (refl, {fit}) $ fjoin ! $'
 
+    def typed(self, term, fit):
+        """What says that the machine value has its type."""
+        return '(tt, tt)' if self.is_bool else f'(tt, record {{ fits = {fit} }})'
+
+    def known(self, place):
+        """What says that the parameter fits, out of what a walk is told of it."""
+        return f'{place} .1'
+
+
+class Struct(Number):
+    """The struct that is given by value, whose machine value and what says that it fits are those of `Thin.antt`."""
+
+    def __init__(self, rust):
+        self.rust, self.denoted, self.row, self.mir = rust, rust, 'P.the-row', 'P′.mir'
+        self.is_bool, self.width = False, None
+        self.values, self.tells = 'LL.vals P.the-type P′.the-laws', 'LL.tells P.the-type P′.the-laws'
+
+    def value(self, term):
+        return f'planesVal ({term})'
+
+    def fits(self, term):
+        return f'PlanesFit ({term})'
+
+    def owned(self, term, fit):
+        makes = 'P.the-row (Is P.the-row) ((LL.makes P.the-type P′.the-plain) 𝓤 H A)'
+        return f'owned ! {makes} ({term}) _ ({fit}) $ fjoin ! $'
+
+    def typed(self, term, fit):
+        return f'(LL.lawful P.the-type P′.the-laws 𝓤 H A W .typed ({term}) _ ({fit}) .0)'
+
+    def known(self, place):
+        return place
+
 
 class Numbers:
     """The plain parameters of a function, as one tuple x. Another tuple says that each of them but the bools fits."""
 
     def __init__(self, types):
-        self.all = [Number(rust) for rust in types]
+        self.all = [Struct(rust) if rust == STRUCT else Number(rust) for rust in types]
         self.sized = [i for i, number in enumerate(self.all) if not number.is_bool]
 
     def term(self, i):
@@ -92,7 +129,7 @@ class Numbers:
 
     def typed(self, i, name='fit'):
         """Returns the term that says that the machine value of number i has its type."""
-        return '(tt, tt)' if self.all[i].is_bool else f'(tt, record {{ fits = {self.fit(i, name)} }})'
+        return self.all[i].typed(self.term(i), self.fit(i, name) if i in self.sized else '')
 
     def texts(self):
         """Returns the texts that the templates take from the numbers."""
@@ -101,20 +138,20 @@ class Numbers:
         fit = [self.fit(i, 'f') if i in self.sized else '' for i in range(len(self.all))]
         owned = [number.owned(self.term(i), fit[i]) for i, number in enumerate(self.all)]
         # The tally and the slice come first among all parameters.
-        known = [f'are{part(2 + i)} .1' for i in self.sized]
+        known = [self.all[i].known(f'are{part(2 + i)}') for i in self.sized]
         return dict(
             type=product(number.denoted for number in self.all),
             fit_type=product(fits[:-1], fits[-1]),
             values_type=product(['List Val'] * len(self.all)),
             values=paired(f'{value} ∷ []' for value in values),
             passed=' ∷ '.join([*values, '[]']),
-            types=listed(number.rust for number in self.all),
+            types=listed(number.row for number in self.all),
             owned=' '.join(reversed(owned)),
-            stay=[f'stay-none (λ _. {number.rust}) yes' for number in self.all],
+            stay=[f'stay-none (λ _. {number.row}) yes' for number in self.all],
             spelt=[number.values for number in self.all],
             told=[number.tells for number in self.all],
             known=paired(known[:-1], known[-1]),
             none=['tt'] * len(self.all),
-            builtins=', '.join(sorted({'u8', *(number.rust for number in self.all)})),
+            builtins=', '.join(sorted({'u8', *(number.rust for number in self.all if number.row == number.rust)})),
             widths=', '.join(sorted({number.width for number in self.all if number.width})),
         )

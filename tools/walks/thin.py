@@ -129,7 +129,7 @@ def mir(numbers):
 def thin_file(code, paths, header):
     numbers = Numbers(code.first.types)
     texts = numbers.texts()
-    none = [f'goes-none 𝓤 H A W 2 (λ _. {number.rust}) yes (λ κs y g. refl)' for number in numbers.all]
+    none = [f'goes-none 𝓤 H A W 2 (λ _. {number.row}) yes (λ κs y g. refl)' for number in numbers.all]
     whole = 'tt (plain (λ _. T.the-row))'
     told = ['mut-tells (named 0) (κs .0) T.the-row', 'mut-slice-tells (named 1) (κs .1 .0) u8']
     texts.update(

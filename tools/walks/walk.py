@@ -118,6 +118,14 @@ class Walk:
             text = f'and-then ! ({self.load(name)}) ({text})'
         return text
 
+    def parts(self, name, fields):
+        """The fields of a local struct, as the operands of an aggregate."""
+        text = 'no-more !'
+        for field in reversed(fields):
+            place = f'look-in ! {self.at(name)} (sub ! {field} refl (whole !))'
+            text = f'and-then ! (load ! (from ! (fld ! refl (stop !))) ({place})) ({text})'
+        return text
+
     def reborrow(self, slice_, pointer, to, room):
         """Writes `to = &mut *slice`, by way of a pointer."""
         place = self.at(slice_)

@@ -7,7 +7,7 @@ use Rattle.imgproc.specs.declared.morphology.tally.Tally.{Tally}
 use Rattle.imgproc.specs.declared.morphology.tally.Met.{Met}
 use Rattle.imgproc.specs.Tallies.{Raised}
 
--- a comparison: the extreme of the two samples, and the tally raised by 1
+-- a comparison chooses the extreme of the two samples, and raises the tally by 1
 pub record Compares (extreme : ℕ) (tally : Tally) (met : Met) : Type 0 where
   pub chosen : met .value ≡ extreme
   pub counted : Raised tally 1 (met .tally)
@@ -17,7 +17,7 @@ abbrev pub Before : Bool → ℕ → ℕ → Type 0
 Before true a b = Low a b
 Before false a b = High a b
 
--- the extreme of two samples in that order
+-- chooses the extreme of two samples in that order
 abbrev pub extreme : Bool → ℕ → ℕ → ℕ
 extreme true a b = min a b
 extreme false a b = max a b

@@ -1,19 +1,30 @@
--- A fold is THE extreme of its range, under either order: one law over the order serves minima and maxima. Assumes nothing.
+-- A fold is THE extreme of its range, under either order: one law over the order serves minima and maxima.
+-- Assumes nothing.
 use mathlib.Core.Path.{_≡_, refl, sym, _∙_, subst}
 use mathlib.Core.Logic.{_⊎_, inl, inr, ⊎-elim}
 use Prim.Native.Nat.{ℕ, zero, suc, _+_, _-_, _≤_, min, max}
-use native.Mathlib.Nat.{le-refl, le-trans, le-antisymm, eq-or-lt-of-le, min-le-left, min-le-right, le-max-left, le-max-right}
+use native.Mathlib.Nat.{
+  le-refl,
+  le-trans,
+  le-antisymm,
+  eq-or-lt-of-le,
+  min-le-left,
+  min-le-right,
+  le-max-left,
+  le-max-right,
+}
 use native.Mathlib.Omega.{arith}
 use Rattle.imgproc.specs.Fold.{foldFrom, foldOver, Box, foldBox}
 
--- v is the extreme, under the order R, of the samples f at the indices S: it stands before each of them, and is one of them
+-- v is the extreme, under the order R, of the samples f at the indices S: it stands before each of them, and is one of
+-- them
 pub record Extreme {I : Type 0} (R : ℕ → ℕ → Type 0) (S : I → Type 0) (f : I → ℕ) (v : ℕ) : Type 0 where
   pub bound : (i : I) → S i → R v (f i)
   pub at : I
   pub within : S at
   pub is : f at ≡ v
 
--- an order, and the choice of the first of two under it
+-- R orders samples, and op chooses the first of two under it
 pub record Order (R : ℕ → ℕ → Type 0) (op : ℕ → ℕ → ℕ) : Type 0 where
   pub same : (a : ℕ) → R a a
   pub trans : {a b c : ℕ} → R a b → R b c → R a c
@@ -53,7 +64,7 @@ highest = record {
   one = λ a b. ⊎-elim (λ p. inr (omega arith)) (λ q. inl (omega arith)) (le-or a b);
 }
 
--- the indices from a to b, both ends among them; and the pixels of a box
+-- i lies from a to b, both ends among them; and p in a box
 abbrev pub Between : ℕ → ℕ → ℕ → Type 0
 Between a b i = (a ≤ i) × (i ≤ b)
 
@@ -64,7 +75,7 @@ Inside b p = Between (b .left) (b .right) (p .0) × Between (b .top) (b .bottom)
 abbrev pub Near : ℕ → ℕ → ℕ → Type 0
 Near r a b = (a ≤ b + r) × (b ≤ a + r)
 
--- a box that has a pixel
+-- the box has a pixel
 pub record Some (b : Box) : Type 0 where
   pub across : b .left ≤ b .right
   pub down : b .top ≤ b .bottom
@@ -73,7 +84,9 @@ module _ {R : ℕ → ℕ → Type 0} {op : ℕ → ℕ → ℕ} (o : Order R op
   -- an extreme is unique
   pub unique : {I : Type 0} {S : I → Type 0} {f : I → ℕ} {v w : ℕ} → Extreme R S f v → Extreme R S f w → v ≡ w
   unique {v} {w} x y =
-      o .anti (subst (λ (n : ℕ). R v n) (y .is) (x .bound (y .at) (y .within))) (subst (λ (n : ℕ). R w n) (x .is) (y .bound (x .at) (x .within)))
+      o .anti
+      (subst (λ (n : ℕ). R v n) (y .is) (x .bound (y .at) (y .within)))
+      (subst (λ (n : ℕ). R w n) (x .is) (y .bound (x .at) (x .within)))
 
   -- the fold over a..a + n is the extreme there
   fold-from : (f : ℕ → ℕ) (a n : ℕ) → Extreme R (Between a (a + n)) f (foldFrom op f a n)
@@ -103,10 +116,12 @@ module _ {R : ℕ → ℕ → Type 0} {op : ℕ → ℕ → ℕ} (o : Order R op
   fold-extreme f a b h = let e : a + (b - a) ≡ b = omega arith in rw e at (fold-from f a (b - a))
 
   -- and of a box: the extreme of its rows' extremes
-  pub fold-box-extreme : (f : ℕ → ℕ → ℕ) (b : Box) → Some b → Extreme R (Inside b) (λ p. f (p .0) (p .1)) (foldBox op f b)
+  pub fold-box-extreme : (f : ℕ → ℕ → ℕ) (b : Box) → Some b
+      → Extreme R (Inside b) (λ p. f (p .0) (p .1)) (foldBox op f b)
   unfolding foldBox
   fold-box-extreme f b s =
-      let row : (y : ℕ) → Extreme R (Between (b .left) (b .right)) (λ x. f x y) (foldOver op (λ x. f x y) (b .left) (b .right)) = λ y.
+      let row : (y : ℕ)
+      → Extreme R (Between (b .left) (b .right)) (λ x. f x y) (foldOver op (λ x. f x y) (b .left) (b .right)) = λ y.
       fold-extreme (λ x. f x y) (b .left) (b .right) (s .across) in
       let all = fold-extreme (λ y. foldOver op (λ x. f x y) (b .left) (b .right)) (b .top) (b .bottom) (s .down) in
       record {
@@ -120,5 +135,6 @@ module _ {R : ℕ → ℕ → Type 0} {op : ℕ → ℕ → ℕ} (o : Order R op
   pub is-fold : {f : ℕ → ℕ} {v : ℕ} (a b : ℕ) → a ≤ b → Extreme R (Between a b) f v → v ≡ foldOver op f a b
   is-fold {f} a b h x = unique x (fold-extreme f a b h)
 
-  pub is-fold-box : (f : ℕ → ℕ → ℕ) {v : ℕ} (b : Box) → Some b → Extreme R (Inside b) (λ p. f (p .0) (p .1)) v → v ≡ foldBox op f b
+  pub is-fold-box : (f : ℕ → ℕ → ℕ) {v : ℕ} (b : Box) → Some b → Extreme R (Inside b) (λ p. f (p .0) (p .1)) v
+      → v ≡ foldBox op f b
   is-fold-box f b s x = unique x (fold-box-extreme f b s)

@@ -1,5 +1,5 @@
--- Document 01, part 2: what the passes and sweeps over planes of one workspace ask and leave. Definitions only.
--- A plane stands at an offset of the workspace: h lines of w lanes each, line y at y × w, so that lane x is a column of the plane.
+-- Document 01, part 2: says what the passes and sweeps over planes of one workspace ask and leave. Definitions only.
+-- A plane stands at an offset of the workspace: h lines of w lanes each, line y at y × w, so that lane x is a column.
 use mathlib.Core.Path.{_≡_}
 use mathlib.Core.Bool.{Bool}
 use mathlib.Core.List.{List}
@@ -8,21 +8,35 @@ use Prim.Native.Nat.{ℕ, _+_, _-_, _*_, _/_, _≤_, _<_, min}
 use lib.ListN.{length, getD}
 use Rattle.image.specs.Plane.{part}
 use Rattle.imgproc.specs.declared.morphology.tally.Tally.{Tally}
+use Rattle.imgproc.specs.declared.morphology.sweeps.Planes.{Planes}
 use Rattle.imgproc.specs.Tallies.{Raised, HasRoom}
 use Rattle.imgproc.specs.Extremes.{Extreme, Between}
-use Rattle.imgproc.specs.Reach.{low, high, radius, reachFrom, reachTo, walk, forwardAt, backwardAt, joinAt, lineWalks, rectWalks, sweepWalks}
+use Rattle.imgproc.specs.Reach.{
+  low,
+  high,
+  radius,
+  reachFrom,
+  reachTo,
+  walk,
+  forwardAt,
+  backwardAt,
+  joinAt,
+  lineWalks,
+  rectWalks,
+  sweepWalks,
+}
 use Rattle.imgproc.specs.Compared.{Before, extreme}
 use Rattle.imgproc.specs.Morphology.{sweptRect}
 
--- the sample of lane x on line y of the plane at `at`
+-- reads the sample of lane x on line y of the plane at `at`
 abbrev pub lane : List ℕ → ℕ → ℕ → ℕ → ℕ → ℕ
 lane d at w x y = getD d (at + (y * w + x)) 0
 
--- two stretches, m numbers from a on and n numbers from b on, that have none in common
+-- m numbers from a on and n numbers from b on have none in common
 pub record Apart (a m b n : ℕ) : Type 0 where
   pub clear : (a + m ≤ b) ⊎ (b + n ≤ a)
 
--- a place j outside the n numbers from `at` on
+-- j lies outside the n numbers from `at` on
 pub record Off (at n j : ℕ) : Type 0 where
   pub off : (j < at) ⊎ (at + n ≤ j)
 
@@ -42,7 +56,8 @@ pub record Spared (to n spare m : ℕ) (d d′ : List ℕ) : Type 0 where
   pub long : length d′ ≡ length d
   pub same : (j : ℕ) → Off to n j → Off spare m j → getD d′ j 0 ≡ getD d j 0
 
--- forward: the extreme so far of the block of i; backward: of the rest of its block, clipped to the line of n; and of its reach
+-- v is an extreme of samples around i: of its block so far (forward); of the rest of its block, clipped to the line of
+-- n (backward); and of its reach
 abbrev pub Forwards : (ℕ → ℕ → Type 0) → ℕ → (ℕ → ℕ) → ℕ → ℕ → Type 0
 Forwards R k f i v = Extreme R (Between (k * (i / k)) i) f v
 
@@ -52,11 +67,12 @@ Backwards R k n f i v = Extreme R (Between i (min (k * (i / k) + k - 1) (n - 1))
 abbrev pub Reached : (ℕ → ℕ → Type 0) → ℕ → ℕ → (ℕ → ℕ) → ℕ → ℕ → Type 0
 Reached R k n f i v = Extreme R (Between (reachFrom k n i) (reachTo k n i)) f v
 
--- joining: the backward extreme at low meets the forward one at high
+-- the backward extreme at low meets the forward one at high
 abbrev pub Joins : (ℕ → ℕ → ℕ) → ℕ → ℕ → (ℕ → ℕ) → (ℕ → ℕ) → ℕ → ℕ → Type 0
 Joins op k n suffix prefix i v = v ≡ op (suffix (low (radius k) i)) (prefix (high (radius k) n i))
 
--- what a row of lanes asks: its stretches lie in the workspace, the one that is written apart from the others, and the tally has room
+-- a row of lanes asks that its stretches lie in the workspace, the one that is written apart from the others, and that
+-- the tally has room
 pub record LanesReady (tally : Tally) (d : List ℕ) (a b to w : ℕ) : Type 0 where
   pub left : a + w ≤ length d
   pub right : b + w ≤ length d
@@ -65,12 +81,13 @@ pub record LanesReady (tally : Tally) (d : List ℕ) (a b to w : ℕ) : Type 0 w
   pub right-apart : Apart b w to w
   pub room : HasRoom tally w
 
--- a row of lanes met: each lane holds the extreme of its two samples, one comparison each
-pub record LanesMet (tally : Tally) (d : List ℕ) (a b to w : ℕ) (least : Bool) (raised : Tally) (d′ : List ℕ) : Type 0 where
+-- each lane of a row holds the extreme of its two samples, one comparison each
+pub record LanesMet (tally : Tally) (d : List ℕ) (a b to w : ℕ) (least : Bool)
+    (raised : Tally) (d′ : List ℕ) : Type 0 where
   pub row : Rowed to w (λ x. extreme least (getD d (a + x) 0) (getD d (b + x) 0)) d d′
   pub counted : Raised tally w raised
 
--- what a forward or backward pass asks
+-- a forward or a backward pass asks for two planes apart from each other
 pub record PassReady (tally : Tally) (d : List ℕ) (from to k w h : ℕ) : Type 0 where
   pub source : from + w * h ≤ length d
   pub target : to + w * h ≤ length d
@@ -78,7 +95,7 @@ pub record PassReady (tally : Tally) (d : List ℕ) (from to k w h : ℕ) : Type
   pub kernel : 0 < k
   pub room : HasRoom tally (w * h)
 
--- what a joining pass asks
+-- a joining pass asks for two planes that it reads, and one apart from both that it writes
 pub record JoinReady (tally : Tally) (d : List ℕ) (suffix prefix to k w h : ℕ) : Type 0 where
   pub left : suffix + w * h ≤ length d
   pub right : prefix + w * h ≤ length d
@@ -88,103 +105,136 @@ pub record JoinReady (tally : Tally) (d : List ℕ) (suffix prefix to k w h : �
   pub kernel : 0 < k
   pub room : HasRoom tally (w * h)
 
--- what a pass leaves: at each sample of the plane at `to` what P says, nothing else changed, and the tally raised by w for each line that the test passes
-pub record Passed (P : ℕ → ℕ → ℕ → Type 0) (test : ℕ → Bool) (tally : Tally) (d : List ℕ) (to w h : ℕ) (raised : Tally) (d′ : List ℕ) : Type 0 where
+-- a pass leaves at each sample of the plane at `to` what P says, changes nothing else, and raises the tally by w for
+-- each line that the test passes
+pub record Passed (P : ℕ → ℕ → ℕ → Type 0) (test : ℕ → Bool) (tally : Tally) (d : List ℕ) (to w h : ℕ)
+    (raised : Tally) (d′ : List ℕ) : Type 0 where
   pub each : (x y : ℕ) → x < w → y < h → P x y (lane d′ to w x y)
   pub rest : Outside to (w * h) d d′
   pub counted : Raised tally (walk test h * w) raised
 
--- the three passes
+-- each of the three passes leaves its own extremes
 abbrev pub ForwardPassed : Tally → List ℕ → ℕ → ℕ → ℕ → ℕ → ℕ → Bool → Tally → List ℕ → Type 0
-ForwardPassed tally d from to k w h least raised d′ = Passed (λ x. Forwards (Before least) k (lane d from w x)) (forwardAt k) tally d to w h raised d′
+ForwardPassed tally d from to k w h least raised d′ =
+    Passed (λ x. Forwards (Before least) k (lane d from w x)) (forwardAt k) tally d to w h raised d′
 
 abbrev pub BackwardPassed : Tally → List ℕ → ℕ → ℕ → ℕ → ℕ → ℕ → Bool → Tally → List ℕ → Type 0
-BackwardPassed tally d from to k w h least raised d′ = Passed (λ x. Backwards (Before least) k h (lane d from w x)) (backwardAt k h) tally d to w h raised d′
+BackwardPassed tally d from to k w h least raised d′ =
+    Passed (λ x. Backwards (Before least) k h (lane d from w x)) (backwardAt k h) tally d to w h raised d′
 
 abbrev pub JoinPassed : Tally → List ℕ → ℕ → ℕ → ℕ → ℕ → ℕ → ℕ → Bool → Tally → List ℕ → Type 0
-JoinPassed tally d suffix prefix to k w h least raised d′ = Passed (λ x. Joins (extreme least) k h (lane d suffix w x) (lane d prefix w x)) joinAt tally d to w h raised d′
+JoinPassed tally d suffix prefix to k w h least raised d′ =
+    Passed (λ x. Joins (extreme least) k h (lane d suffix w x) (lane d prefix w x)) joinAt tally d to w h raised d′
 
--- what a sweep of lanes side by side asks: the planes and 2wh of scratch in the workspace, the scratch apart from both planes, and room in the tally
-pub record LinesReady (tally : Tally) (d : List ℕ) (from to spare k w h : ℕ) : Type 0 where
-  pub source : from + w * h ≤ length d
-  pub target : to + w * h ≤ length d
-  pub scratch : spare + 2 * (w * h) ≤ length d
-  pub source-apart : Apart from (w * h) spare (2 * (w * h))
-  pub target-apart : Apart to (w * h) spare (2 * (w * h))
+-- counts the samples of each plane
+abbrev pub area : Planes → ℕ
+area p = p .width * p .height
+
+-- a sweep in place reads the plane that it writes
+abbrev pub inPlace : Planes → Planes
+inPlace p = record { from = p .to; to = p .to; spare = p .spare; width = p .width; height = p .height }
+
+-- nothing but the plane at `to` and n numbers of scratch has changed
+abbrev pub Beside : ℕ → Planes → List ℕ → List ℕ → Type 0
+Beside n p d d′ = Spared (p .to) (area p) (p .spare) n d d′
+
+-- a sweep of lanes side by side asks for the planes and twice their area of scratch in the workspace, the scratch apart
+-- from both planes, and room in the tally
+pub record LinesReady (tally : Tally) (d : List ℕ) (p : Planes) (k : ℕ) : Type 0 where
+  pub source : p .from + area p ≤ length d
+  pub target : p .to + area p ≤ length d
+  pub scratch : p .spare + 2 * area p ≤ length d
+  pub source-apart : Apart (p .from) (area p) (p .spare) (2 * area p)
+  pub target-apart : Apart (p .to) (area p) (p .spare) (2 * area p)
   pub kernel : 0 < k
-  pub room : HasRoom tally (3 * (w * h))
+  pub room : HasRoom tally (3 * area p)
 
--- each of w lanes of h samples swept: at each sample the extreme of its reach, the walks of each lane counted, and nothing changed but the plane at `to` and the scratch
-pub record LinesSwept (tally : Tally) (d : List ℕ) (from to spare k w h : ℕ) (least : Bool) (raised : Tally) (d′ : List ℕ) : Type 0 where
-  pub each : (x y : ℕ) → x < w → y < h → Reached (Before least) k h (lane d from w x) y (lane d′ to w x y)
-  pub counted : Raised tally (w * lineWalks k h) raised
-  pub kept : Spared to (w * h) spare (2 * (w * h)) d d′
+-- it leaves at each sample of each lane the extreme of its reach, counts the walks of each lane, and changes nothing
+-- but the plane at `to` and the scratch
+pub record LinesSwept (tally : Tally) (d : List ℕ) (p : Planes) (k : ℕ) (least : Bool)
+    (raised : Tally) (d′ : List ℕ) : Type 0 where
+  pub each : (x y : ℕ) → x < p .width → y < p .height
+      → Reached (Before least) k (p .height) (lane d (p .from) (p .width) x) y (lane d′ (p .to) (p .width) x y)
+  pub counted : Raised tally (p .width * lineWalks k (p .height)) raised
+  pub kept : Beside (2 * area p) p d d′
 
--- what a sweep of rows or of columns asks: two planes, which are one or lie apart, and 3wh of scratch apart from both
-pub record SweepReady (tally : Tally) (d : List ℕ) (from to spare k w h : ℕ) : Type 0 where
-  pub source : from + w * h ≤ length d
-  pub target : to + w * h ≤ length d
-  pub scratch : spare + 3 * (w * h) ≤ length d
-  pub source-apart : Apart from (w * h) spare (3 * (w * h))
-  pub target-apart : Apart to (w * h) spare (3 * (w * h))
-  pub planes : (from ≡ to) ⊎ Apart from (w * h) to (w * h)
+-- a sweep of rows or of columns asks for two planes, which are one or lie apart, and three times their area of scratch
+-- apart from both
+pub record SweepReady (tally : Tally) (d : List ℕ) (p : Planes) (k : ℕ) : Type 0 where
+  pub source : p .from + area p ≤ length d
+  pub target : p .to + area p ≤ length d
+  pub scratch : p .spare + 3 * area p ≤ length d
+  pub source-apart : Apart (p .from) (area p) (p .spare) (3 * area p)
+  pub target-apart : Apart (p .to) (area p) (p .spare) (3 * area p)
+  pub planes : (p .from ≡ p .to) ⊎ Apart (p .from) (area p) (p .to) (area p)
   pub kernel : 0 < k
-  pub room : HasRoom tally (3 * (w * h))
+  pub room : HasRoom tally (3 * area p)
 
--- each of h rows of w swept
-pub record RowsSwept (tally : Tally) (d : List ℕ) (from to spare k w h : ℕ) (least : Bool) (raised : Tally) (d′ : List ℕ) : Type 0 where
-  pub each : (x y : ℕ) → x < w → y < h → Reached (Before least) k w (λ i. lane d from w i y) x (lane d′ to w x y)
-  pub counted : Raised tally (h * lineWalks k w) raised
-  pub kept : Spared to (w * h) spare (3 * (w * h)) d d′
+-- a sweep of rows leaves at each sample the extreme of its reach along its row
+pub record RowsSwept (tally : Tally) (d : List ℕ) (p : Planes) (k : ℕ) (least : Bool)
+    (raised : Tally) (d′ : List ℕ) : Type 0 where
+  pub each : (x y : ℕ) → x < p .width → y < p .height
+      → Reached (Before least) k (p .width) (λ i. lane d (p .from) (p .width) i y) x (lane d′ (p .to) (p .width) x y)
+  pub counted : Raised tally (p .height * lineWalks k (p .width)) raised
+  pub kept : Beside (3 * area p) p d d′
 
--- each of w columns of h swept
-pub record ColumnsSwept (tally : Tally) (d : List ℕ) (from to spare k w h : ℕ) (least : Bool) (raised : Tally) (d′ : List ℕ) : Type 0 where
-  pub each : (x y : ℕ) → x < w → y < h → Reached (Before least) k h (lane d from w x) y (lane d′ to w x y)
-  pub counted : Raised tally (w * lineWalks k h) raised
-  pub kept : Spared to (w * h) spare (3 * (w * h)) d d′
+-- a sweep of columns leaves at each sample the extreme of its reach along its column
+pub record ColumnsSwept (tally : Tally) (d : List ℕ) (p : Planes) (k : ℕ) (least : Bool)
+    (raised : Tally) (d′ : List ℕ) : Type 0 where
+  pub each : (x y : ℕ) → x < p .width → y < p .height
+      → Reached (Before least) k (p .height) (lane d (p .from) (p .width) x) y (lane d′ (p .to) (p .width) x y)
+  pub counted : Raised tally (p .width * lineWalks k (p .height)) raised
+  pub kept : Beside (3 * area p) p d d′
 
--- what an erosion or a dilation asks: what its sweeps ask, and room in the tally for both
-pub record MorphReady (tally : Tally) (d : List ℕ) (from to spare kw kh w h : ℕ) : Type 0 where
-  pub rows : SweepReady tally d from to spare kw w h
+-- an erosion or a dilation asks what its sweeps ask, and room in the tally for both
+pub record MorphReady (tally : Tally) (d : List ℕ) (p : Planes) (kw kh : ℕ) : Type 0 where
+  pub rows : SweepReady tally d p kw
   pub columns : 0 < kh
-  pub wide : 0 < w
-  pub room : HasRoom tally (6 * (w * h))
+  pub wide : 0 < p .width
+  pub room : HasRoom tally (6 * area p)
 
--- an erosion or a dilation of the packed plane at `from`, left at `to`
-pub record Morphed (tally : Tally) (d : List ℕ) (from to spare kw kh w h : ℕ) (least : Bool) (raised : Tally) (d′ : List ℕ) : Type 0 where
-  pub leaves : part to (w * h) d′ ≡ sweptRect (extreme least) kw kh w h (part from (w * h) d)
-  pub counted : Raised tally (rectWalks kw kh w h) raised
-  pub kept : Spared to (w * h) spare (3 * (w * h)) d d′
+-- it leaves the packed plane at `from` eroded or dilated at `to`
+pub record Morphed (tally : Tally) (d : List ℕ) (p : Planes) (kw kh : ℕ) (least : Bool)
+    (raised : Tally) (d′ : List ℕ) : Type 0 where
+  pub leaves : part (p .to) (area p) d′ ≡
+      sweptRect (extreme least) kw kh (p .width) (p .height) (part (p .from) (area p) d)
+  pub counted : Raised tally (rectWalks kw kh (p .width) (p .height)) raised
+  pub kept : Beside (3 * area p) p d d′
 
--- what two of them ask, the second of what the first left: what the first asks, and room in the tally for all four sweeps
-pub record PairReady (tally : Tally) (d : List ℕ) (from to spare kw kh w h : ℕ) : Type 0 where
-  pub once : MorphReady tally d from to spare kw kh w h
-  pub room : HasRoom tally (12 * (w * h))
+-- two of them, the second of what the first left, ask what the first asks, and room in the tally for all four sweeps
+pub record PairReady (tally : Tally) (d : List ℕ) (p : Planes) (kw kh : ℕ) : Type 0 where
+  pub once : MorphReady tally d p kw kh
+  pub room : HasRoom tally (12 * area p)
 
--- two of them, of the sides `one` and `two`, of the packed plane at `from`, left at `to`
-pub record PairMorphed (tally : Tally) (d : List ℕ) (from to spare kw kh w h : ℕ) (one two : Bool) (raised : Tally) (d′ : List ℕ) : Type 0 where
-  pub leaves : part to (w * h) d′ ≡ sweptRect (extreme two) kw kh w h (sweptRect (extreme one) kw kh w h (part from (w * h) d))
-  pub counted : Raised tally (2 * rectWalks kw kh w h) raised
-  pub kept : Spared to (w * h) spare (3 * (w * h)) d d′
+-- two of them, in the orders `one` and `two`, leave at `to` what they make of the packed plane at `from`
+pub record PairMorphed (tally : Tally) (d : List ℕ) (p : Planes) (kw kh : ℕ) (one two : Bool)
+    (raised : Tally) (d′ : List ℕ) : Type 0 where
+  pub leaves : part (p .to) (area p) d′ ≡
+      sweptRect (extreme two) kw kh (p .width) (p .height)
+      (sweptRect (extreme one) kw kh (p .width) (p .height) (part (p .from) (area p) d))
+  pub counted : Raised tally (2 * rectWalks kw kh (p .width) (p .height)) raised
+  pub kept : Beside (3 * area p) p d d′
 
--- what an opening or a closing asks
-pub record TwiceReady (tally : Tally) (d : List ℕ) (from to spare k w h : ℕ) : Type 0 where
-  pub rows : SweepReady tally d from to spare k w h
-  pub wide : 0 < w
-  pub room : HasRoom tally (12 * (w * h))
+-- an opening or a closing asks what a sweep asks, a plane that is not empty, and room in the tally for all four sweeps
+pub record TwiceReady (tally : Tally) (d : List ℕ) (p : Planes) (k : ℕ) : Type 0 where
+  pub rows : SweepReady tally d p k
+  pub wide : 0 < p .width
+  pub room : HasRoom tally (12 * area p)
 
--- an opening (`made` is `opened`) or a closing of the packed plane at `from`, left at `to`
-pub record TwiceMorphed (made : ℕ → ℕ → ℕ → List ℕ → List ℕ) (tally : Tally) (d : List ℕ) (from to spare k w h : ℕ) (raised : Tally) (d′ : List ℕ) : Type 0 where
-  pub leaves : part to (w * h) d′ ≡ made k w h (part from (w * h) d)
-  pub counted : Raised tally (2 * sweepWalks k w h) raised
-  pub kept : Spared to (w * h) spare (3 * (w * h)) d d′
+-- an opening (`made` is `opened`) or a closing leaves at `to` what it makes of the packed plane at `from`
+pub record TwiceMorphed (made : ℕ → ℕ → ℕ → List ℕ → List ℕ) (tally : Tally) (d : List ℕ) (p : Planes) (k : ℕ)
+    (raised : Tally) (d′ : List ℕ) : Type 0 where
+  pub leaves : part (p .to) (area p) d′ ≡ made k (p .width) (p .height) (part (p .from) (area p) d)
+  pub counted : Raised tally (2 * sweepWalks k (p .width) (p .height)) raised
+  pub kept : Beside (3 * area p) p d d′
 
--- a plane of `rows` rows of `columns` turned: its columns are the rows of the plane at `to`
+-- a turn asks for two planes of `rows` times `columns` apart from each other
 pub record TurnReady (d : List ℕ) (from to rows columns : ℕ) : Type 0 where
   pub source : from + rows * columns ≤ length d
   pub target : to + rows * columns ≤ length d
   pub apart : Apart from (rows * columns) to (rows * columns)
 
+-- it leaves the columns of the plane at `from` as the rows of the plane at `to`
 pub record Turned (d : List ℕ) (from to rows columns : ℕ) (d′ : List ℕ) : Type 0 where
   pub each : (x y : ℕ) → x < columns → y < rows → lane d′ to rows y x ≡ lane d from columns x y
   pub rest : Outside to (rows * columns) d d′

@@ -3,7 +3,15 @@ use mathlib.Core.Path.{_≡_, refl, sym, ap, _∙_}
 use mathlib.Core.Bool.{Bool, true, false, not}
 use mathlib.Core.Logic.{_⊎_, inl, inr, ⊎-elim}
 use Prim.Native.Nat.{ℕ, zero, suc, _+_, _-_, _*_, _/_, _%_, _≤_, _<_}
-use native.Mathlib.Nat.{zero-mod, eq-or-lt-of-le, div-add-mod, mod-lt, div-eq-of-lt-le, le-div-iff-mul-le, mul-le-mul-left}
+use native.Mathlib.Nat.{
+  zero-mod,
+  eq-or-lt-of-le,
+  div-add-mod,
+  mod-lt,
+  div-eq-of-lt-le,
+  le-div-iff-mul-le,
+  mul-le-mul-left,
+}
 use native.Mathlib.Numerals.{add-one}
 use native.Mathlib.Omega.{arith}
 use lib.Dec.{eqb}
@@ -11,9 +19,10 @@ use borrow.Author.Tests.{eq-eqb, ne-eqb}
 use Rattle.imgproc.specs.Fold.{bit}
 use Rattle.imgproc.specs.Reach.{walk, forwardAt, backwardAt, joinAt, ceiling, lineWalks, sweepWalks, R}
 
--- two numbers, by order
+-- compares two numbers, and goes on by their order
 pub cases : (a b : ℕ) {C : Type 0} → (a ≡ b → C) → (a < b → C) → (b < a → C) → C
-cases a b e l g = ⊎-elim (λ p. ⊎-elim e l (eq-or-lt-of-le p)) (λ q. ⊎-elim (λ s. e (sym s)) g (eq-or-lt-of-le q)) (le-or a b)
+cases a b e l g =
+    ⊎-elim (λ p. ⊎-elim e l (eq-or-lt-of-le p)) (λ q. ⊎-elim (λ s. e (sym s)) g (eq-or-lt-of-le q)) (le-or a b)
   where
     le-or : (a b : ℕ) → (a ≤ b) ⊎ (b ≤ a)
     le-or zero b = inl (omega arith)
@@ -24,11 +33,11 @@ cases a b e l g = ⊎-elim (λ p. ⊎-elim e l (eq-or-lt-of-le p)) (λ q. ⊎-el
 pub quotient : (k q i : ℕ) → k * q ≤ i → i < k * q + k → i / k ≡ q
 quotient k q i l h = div-eq-of-lt-le k (omega arith) (omega arith)
 
--- an index's place in its block
+-- finds an index's place in its block
 pub place : (k i : ℕ) → 0 < k → (k * (i / k) + i % k ≡ i) × (i % k < k)
 place k i p = (div-add-mod i k, mod-lt i p)
 
--- walks of tests that agree below n
+-- tests that agree below n make the same walk
 pub same-walk : (p q : ℕ → Bool) (n : ℕ) → ((i : ℕ) → i < n → p i ≡ q i) → walk p n ≡ walk q n
 unfolding walk
 same-walk p q zero h = refl
@@ -37,7 +46,7 @@ same-walk p q (suc n) h =
     let t : bit (p n) ≡ bit (q n) = ap (λ (b : Bool). bit b) (h n (omega arith)) in
     omega arith
 
--- a walk that starts one further on
+-- a walk starts one further on
 shift-walk : (p : ℕ → Bool) (n : ℕ) → walk p (suc n) ≡ bit (p 0) + walk (λ (i : ℕ). p (suc i)) n
 unfolding walk
 shift-walk p zero = omega arith
@@ -60,7 +69,7 @@ walk-le p (suc n) = let h = walk-le p n in one (p n) h
 pub line-walks-le : (k n : ℕ) → lineWalks k n ≤ 3 * n
 line-walks-le k n = omega (arith, walk-le (forwardAt k) n, walk-le (backwardAt k n) n, walk-le joinAt n)
 
--- so each of b lines of a
+-- so do b lines of a
 pub lines-walks-le : (k a b : ℕ) → b * lineWalks k a ≤ 3 * (a * b)
 lines-walks-le k a b = let h : b * lineWalks k a ≤ b * (3 * a) = mul-le-mul-left b (line-walks-le k a) in omega arith
 
@@ -70,7 +79,7 @@ join-walk zero = refl
 join-walk (suc n) = let h = join-walk n in omega arith
 
 module _ (k : ℕ) (pos : 0 < k) where
-  -- every index but the first of each block
+  -- a forward pass makes a comparison at every index but the first of each block
   forward-walk : (n : ℕ) → walk (forwardAt k) n + ceiling n k ≡ n
   unfolding walk
   forward-walk zero = omega (arith, quotient k 0 (0 + k - 1) (omega arith) (omega arith))
@@ -94,10 +103,12 @@ module _ (k : ℕ) (pos : 0 < k) where
       let at = place k i pos in
       let nx = place k (suc i) pos in
       let last : i % k ≡ k - 1 → not (eqb (i % k) (k - 1)) ≡ forwardAt k (suc i) = λ e.
-      let q : k * (suc i / k) ≡ k * (i / k) + k = ap (λ (z : ℕ). k * z) (quotient k (i / k + 1) (suc i) (omega arith) (omega arith)) ∙ omega arith in
+      let e′ : suc i / k ≡ i / k + 1 = quotient k (i / k + 1) (suc i) (omega arith) (omega arith) in
+      let q : k * (suc i / k) ≡ k * (i / k) + k = ap (λ (z : ℕ). k * z) e′ ∙ omega arith in
       simp (eq-eqb _ _ e, eq-eqb (suc i % k) 0 (omega arith)) in
       let within : i % k < k - 1 → not (eqb (i % k) (k - 1)) ≡ forwardAt k (suc i) = λ l.
-      let q : k * (suc i / k) ≡ k * (i / k) = ap (λ (z : ℕ). k * z) (quotient k (i / k) (suc i) (omega arith) (omega arith)) in
+      let e′ : suc i / k ≡ i / k = quotient k (i / k) (suc i) (omega arith) (omega arith) in
+      let q : k * (suc i / k) ≡ k * (i / k) = ap (λ (z : ℕ). k * z) e′ in
       simp (ne-eqb (i % k) (k - 1) (λ e. omega arith), ne-eqb (suc i % k) 0 (λ e. omega arith)) in
       cases (i % k) (k - 1) last within (λ g. absurd (omega arith))
 
@@ -120,7 +131,7 @@ module _ (k : ℕ) (pos : 0 < k) where
   unfolding R
   sweep-walks w h = rw (line-walks w, line-walks h)
 
--- b lines of a, each with at least 2 fewer than 3a
+-- b lines of a, each with at least 2 fewer than 3a, have 2b fewer than 3ab
 fewer : (a b p : ℕ) → p + 2 ≤ 3 * a → b * p + 2 * b ≤ 3 * (a * b)
 fewer a b p l = let h : b * (p + 2) ≤ b * (3 * a) = mul-le-mul-left b l in omega arith
 
@@ -131,7 +142,9 @@ module _ (w h : ℕ) (wide : 0 < w) (tall : 0 < h) where
   sweep-below k pos =
       let across : 1 ≤ ceiling w k = le-div-iff-mul-le {k = k} {x = 1} {y = w + k - 1} pos .1 (omega arith) in
       let down : 1 ≤ ceiling h k = le-div-iff-mul-le {k = k} {x = 1} {y = h + k - 1} pos .1 (omega arith) in
-      omega (arith, fewer w h (3 * w - 2 * ceiling w k) (omega arith), fewer h w (3 * h - 2 * ceiling h k) (omega arith))
+      let rows = fewer w h (3 * w - 2 * ceiling w k) (omega arith) in
+      let columns = fewer h w (3 * h - 2 * ceiling h k) (omega arith) in
+      omega arith
 
   pub reading-below : (k m : ℕ) → 0 < k → 0 < m → 2 * R k w h + 2 * R m w h < 24 * (w * h)
   reading-below k m K M = omega (arith, sweep-below k K, sweep-below m M)

@@ -3,6 +3,7 @@ use crate::Check;
 use crate::ImgProcError;
 use crate::morphology::Compared;
 use crate::morphology::rect::close_rect_into;
+use crate::morphology::sweeps::Planes;
 use crate::morphology::tally::Tally;
 use crate::morphology::tally::start;
 use image::Geometry;
@@ -97,7 +98,14 @@ pub(crate) fn flatten(
     let spare = 2 * plane;
     let element = config.structuring_element;
     let _packed = image::pack(src, geometry, workspace, 0);
-    let raised = close_rect_into(tally, workspace, 0, plane, spare, element, width, height);
+    let planes = Planes {
+        from: 0,
+        to: plane,
+        spare,
+        width,
+        height,
+    };
+    let raised = close_rect_into(tally, workspace, planes, element);
     divide_plane(config, workspace, 0, plane, plane);
     raised
 }

@@ -1,13 +1,14 @@
 // Erodes, dilates, opens and closes grey pictures with an odd square kernel, from a strided source to a strided
 // destination.
 pub(crate) mod rect;
-mod sweeps;
+pub(crate) mod sweeps;
 pub mod tally;
 
 use crate::ImgProcError;
 use crate::morphology::rect::close_rect_into;
 use crate::morphology::rect::morph_rect_into;
 use crate::morphology::rect::open_rect_into;
+use crate::morphology::sweeps::Planes;
 use crate::morphology::tally::Tally;
 use crate::morphology::tally::start;
 use image::Geometry;
@@ -43,26 +44,18 @@ fn operate(
 {
     let to = width * height;
     let spare = 2 * to;
+    let planes = Planes {
+        from: 0,
+        to,
+        spare,
+        width,
+        height,
+    };
     match operation {
-        Operation::Erode => {
-            morph_rect_into(tally, ws, 0, to, spare, kernel, kernel, width, height, true)
-        }
-        Operation::Dilate => {
-            morph_rect_into(
-                tally,
-                ws,
-                0,
-                to,
-                spare,
-                kernel,
-                kernel,
-                width,
-                height,
-                false,
-            )
-        }
-        Operation::Open => open_rect_into(tally, ws, 0, to, spare, kernel, width, height),
-        Operation::Close => close_rect_into(tally, ws, 0, to, spare, kernel, width, height),
+        Operation::Erode => morph_rect_into(tally, ws, planes, kernel, kernel, true),
+        Operation::Dilate => morph_rect_into(tally, ws, planes, kernel, kernel, false),
+        Operation::Open => open_rect_into(tally, ws, planes, kernel),
+        Operation::Close => close_rect_into(tally, ws, planes, kernel),
     }
 }
 

@@ -10,6 +10,7 @@ use crate::grid::tiles::gather;
 use crate::grid::tiles::tiles_along;
 use crate::illumination::flatten;
 use crate::morphology::rect::open_rect_into;
+use crate::morphology::sweeps::Planes;
 use crate::morphology::tally::Tally;
 use crate::morphology::tally::start;
 use crate::reading::judging::judge_picture;
@@ -56,7 +57,14 @@ fn flatten_and_open(
     let kernel = config.opening_kernel;
     let division = config.division;
     let raised = flatten(tally, src, geometry, division, bytes);
-    open_rect_into(raised, bytes, plane, 0, spare, kernel, width, height)
+    let planes = Planes {
+        from: plane,
+        to: 0,
+        spare,
+        width,
+        height,
+    };
+    open_rect_into(raised, bytes, planes, kernel)
 }
 
 // Marks the opened picture's tiles: writes their skips from `marks` on.

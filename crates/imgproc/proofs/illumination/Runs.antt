@@ -24,7 +24,7 @@ use Rattle.imgproc.specs.Division.{quotient, dividedBy, divided, divisio
 use Rattle.image.specs.LayoutLaws.{area-small}
 use Rattle.image.specs.CopyLaws.{packs-plane}
 use Rattle.imgproc.proofs.Serving.{unpacked-works}
-use Rattle.imgproc.proofs.morphology.Runs.{twice-ready}
+use Rattle.imgproc.proofs.morphology.Runs.{firstToSecond, twice-ready}
 
 -- ---- packed, closed, divided
 module _ (tally : Tally) (src : List ℕ) (g : Geometry) (d : BackgroundDivideConfig) (ws : List ℕ) (ready : FlattenReady tally src g d ws)
@@ -32,7 +32,7 @@ module _ (tally : Tally) (src : List ℕ) (g : Geometry) (d : BackgroundDivideCo
   plane : (length first ≡ length ws) × (part 0 (g .width * g .height) first ≡ picture src g)
   plane = packs-plane (ready .from) (omega (arith, ready .fits)) pack
 
-  pub close-ready : TwiceReady tally first 0 (g .width * g .height) (2 * (g .width * g .height)) (d .«structuring_element») (g .width) (g .height)
+  pub close-ready : TwiceReady tally first (firstToSecond (g .width) (g .height)) (d .«structuring_element»)
   close-ready = twice-ready (record {
     fits = omega (arith, plane .0, ready .fits);
     kernel = ready .kernel;
@@ -41,8 +41,7 @@ module _ (tally : Tally) (src : List ℕ) (g : Geometry) (d : BackgroundDivideCo
   })
 
   module _ (raised : Tally) (second : List ℕ)
-      (close : TwiceMorphed closed tally first 0 (g .width * g .height) (2 * (g .width * g .height)) (d .«structuring_element») (g .width) (g .height)
-      raised second) where
+      (close : TwiceMorphed closed tally first (firstToSecond (g .width) (g .height)) (d .«structuring_element») raised second) where
     close-long : length second ≡ length ws
     close-long = close .kept .long ∙ plane .0
 

@@ -87,8 +87,9 @@ pub record Done (P : ℕ → ℕ → ℕ → Type 0) (D : ℕ → Type 0) (to w 
   pub rest : Outside to (w * h) d d′
 
 module _ {P : ℕ → ℕ → ℕ → Type 0} {D D′ : ℕ → Type 0} {to w h : ℕ} {d a a′ : List ℕ} (y : ℕ) (g : ℕ → ℕ) where
-  -- one line more
-  pub done-more : y < h → Done P D to w h d a → Rowed (to + y * w) w g a a′ → ((x : ℕ) → x < w → P x y (g x)) → ((i : ℕ) → D′ i → (i ≡ y → ⊥) → D i) → Done P D′ to w h d a′
+  -- one line more is done
+  pub done-more : y < h → Done P D to w h d a → Rowed (to + y * w) w g a a′ → ((x : ℕ) → x < w → P x y (g x))
+      → ((i : ℕ) → D′ i → (i ≡ y → ⊥) → D i) → Done P D′ to w h d a′
   done-more b r q here rest = record {
     each = λ x i l m.
         cases i y

@@ -1,5 +1,5 @@
--- The work of an accepted morphology call: its planes lie in the workspace, and what is packed, operated on and painted is the contract's picture.
--- Assumes nothing.
+-- Proves the work of an accepted morphology call: its planes lie in the workspace, and what is packed, operated on and painted is the contract's
+-- picture. Assumes nothing.
 use mathlib.Core.Path.{_≡_, ap, _∙_}
 use mathlib.Core.List.{List}
 use mathlib.Core.Logic.{inl, inr}
@@ -10,6 +10,7 @@ use Rattle.image.specs.Answers.{Answer, Bare}
 use Rattle.image.specs.Plane.{picture, part}
 use Rattle.image.specs.Copy.{Packs, Unpacks}
 use Rattle.imgproc.specs.declared.morphology.tally.Tally.{Tally}
+use Rattle.imgproc.specs.declared.morphology.sweeps.Planes.{Planes}
 use Rattle.imgproc.specs.Tallies.{room-part}
 use Rattle.imgproc.specs.declared.morphology.Operation.{Operation}
 use Rattle.imgproc.specs.Sweeps.{MorphReady, TwiceReady}
@@ -19,8 +20,11 @@ use Rattle.image.specs.LayoutLaws.{area-small}
 use Rattle.image.specs.CopyLaws.{packs-plane}
 use Rattle.imgproc.proofs.Serving.{unpacked-works}
 
--- ---- the planes of an operation: the first, the second, and the scratch after them
-pub once-ready : {t : Tally} {d : List ℕ} {k w h : ℕ} → OperateReady t d k w h → MorphReady t d 0 (w * h) (2 * (w * h)) k k w h
+-- ---- an operation reads the first plane, writes the second, and has its scratch after both
+abbrev pub firstToSecond : ℕ → ℕ → Planes
+firstToSecond w h = record { from = 0; to = w * h; spare = 2 * (w * h); width = w; height = h }
+
+pub once-ready : {t : Tally} {d : List ℕ} {k w h : ℕ} → OperateReady t d k w h → MorphReady t d (firstToSecond w h) k k
 once-ready p = record {
   rows = record {
     source = omega (arith, p .fits);
@@ -37,7 +41,7 @@ once-ready p = record {
   room = room-part (p .room) (omega arith);
 }
 
-pub twice-ready : {t : Tally} {d : List ℕ} {k w h : ℕ} → OperateReady t d k w h → TwiceReady t d 0 (w * h) (2 * (w * h)) k w h
+pub twice-ready : {t : Tally} {d : List ℕ} {k w h : ℕ} → OperateReady t d k w h → TwiceReady t d (firstToSecond w h) k
 twice-ready p = record { rows = once-ready p .rows; wide = p .wide; room = p .room }
 
 -- ---- packed, operated on, painted

@@ -14,6 +14,7 @@ use Rattle.image.specs.PlaneLaws.{length-tabulate, length-overwritten, part-bef
 use Rattle.image.specs.Views.{picture-again}
 use Rattle.imgproc.specs.declared.reading.config.ReadingConfig.{ReadingConfig}
 use Rattle.imgproc.specs.declared.morphology.tally.Tally.{Tally}
+use Rattle.imgproc.specs.declared.morphology.sweeps.Planes.{Planes}
 use Rattle.imgproc.specs.Tallies.{raised-twice, room-part, room-left}
 use Rattle.imgproc.specs.declared.grid.bytes.TileByte.the-variants.{Skip}
 use Rattle.imgproc.specs.Fold.{bit}
@@ -40,10 +41,11 @@ module _ {tally : Tally} {src : List ℕ} {g : Geometry} {s : ReadingConfig} {ws
   }
 
   module _ {raised : Tally} {first : List ℕ} (flat : Flattened tally src g (s .division) ws raised first) where
-    abbrev plane : ℕ
-    plane = g .width * g .height
+    -- the planes of the opening: from the second back to the first
+    abbrev pub secondToFirst : Planes
+    secondToFirst = record { from = g .width * g .height; to = 0; spare = 2 * (g .width * g .height); width = g .width; height = g .height }
 
-    pub open-ready : TwiceReady raised first plane 0 (2 * plane) (s .«opening_kernel») (g .width) (g .height)
+    pub open-ready : TwiceReady raised first secondToFirst (s .«opening_kernel»)
     open-ready =
         let across = lines-walks-le (s .division .«structuring_element») (g .width) (g .height) in
         let down = lines-walks-le (s .division .«structuring_element») (g .height) (g .width) in
@@ -63,7 +65,7 @@ module _ {tally : Tally} {src : List ℕ} {g : Geometry} {s : ReadingConfig} {ws
         }
 
     pub opened-is : {r : Tally} {second : List ℕ}
-        → TwiceMorphed opened raised first plane 0 (2 * plane) (s .«opening_kernel») (g .width) (g .height) r second
+        → TwiceMorphed opened raised first secondToFirst (s .«opening_kernel») r second
         → Opened tally src g s ws r second
     opened-is o = record {
       leaves = o .leaves ∙ ap (opened (s .«opening_kernel») (g .width) (g .height)) (flat .leaves);

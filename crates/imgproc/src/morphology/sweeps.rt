@@ -1,5 +1,5 @@
-// Sliding extremes along lines (van Herk; Gil and Werman), over planes of one lent workspace at offsets. A plane has
-// `height` lines of `width` lanes each, and every lane is swept at once, so that the inner loops are plain counted ones.
+// Slides extremes along lines (van Herk; Gil and Werman), over planes of one lent workspace at offsets. A plane has
+// `height` lines of `width` lanes each. Every lane is swept at once, so that the inner loops are plain counted ones.
 use crate::morphology::tally::Met;
 use crate::morphology::tally::Tally;
 use crate::morphology::tally::chosen;
@@ -11,9 +11,36 @@ ghost use Prim.Native.Nat.{_+_, _*_, _<_, _≤_};
 ghost use lib.ListN.{length, getD};
 ghost use Rattle.imgproc.specs.Tallies.{HasRoom};
 ghost use Rattle.imgproc.specs.Compared.{Compares, extreme};
-ghost use Rattle.imgproc.specs.Sweeps.{lane, Apart, Rowed, LanesReady, LanesMet, PassReady, JoinReady, ForwardPassed, BackwardPassed, JoinPassed, LinesReady, LinesSwept, TurnReady, Turned, SweepReady, RowsSwept};
+ghost use Rattle.imgproc.specs.Sweeps.{
+  lane,
+  Apart,
+  Rowed,
+  LanesReady,
+  LanesMet,
+  PassReady,
+  JoinReady,
+  ForwardPassed,
+  BackwardPassed,
+  JoinPassed,
+  LinesReady,
+  LinesSwept,
+  TurnReady,
+  Turned,
+  SweepReady,
+  RowsSwept,
+};
 
-// The lesser of two samples where `least` is true, else the greater.
+// Tells a sweep where it works, by offsets of one workspace: it reads the plane at `from`, writes the plane at `to`,
+// and has its scratch at `spare`. Each plane has `height` rows of `width` samples.
+pub(crate) struct Planes {
+    pub from: usize,
+    pub to: usize,
+    pub spare: usize,
+    pub width: usize,
+    pub height: usize,
+}
+
+// Chooses the lesser of two samples where `least` is true, else the greater.
 fn extreme(tally: Tally, a: u8, b: u8, least: bool) -> Met
     requires { ⌜ HasRoom tally 1 ⌝ }
     ensures { λ r. ⌜ Compares (extreme least a b) tally r ⌝ }
@@ -25,7 +52,7 @@ fn extreme(tally: Tally, a: u8, b: u8, least: bool) -> Met
     }
 }
 
-// A row of lanes, copied.
+// Copies a row of lanes.
 fn copy_lanes(ws: &mut [u8], from: usize, to: usize, lanes: usize)
     requires { ⌜ (from + lanes ≤ length (now ws)) × (to + lanes ≤ length (now ws)) × Apart from lanes to lanes ⌝ }
     ensures { λ _. ⌜ Rowed to lanes (λ x. getD (now (ws .entry)) (from + x) 0) (now (ws .entry)) (now (ws .exit)) ⌝ }
@@ -37,7 +64,7 @@ fn copy_lanes(ws: &mut [u8], from: usize, to: usize, lanes: usize)
     }
 }
 
-// A row of lanes at `to`: each holds the extreme of its samples at `a` and at `b`.
+// Writes a row of lanes at `to`: each gets the extreme of its samples at `a` and at `b`.
 fn meet_lanes(
     tally: Tally,
     ws: &mut [u8],
@@ -61,7 +88,7 @@ fn meet_lanes(
     t
 }
 
-// Forward: each line meets the extreme so far of its block.
+// Walks forward: each line meets the extreme so far of its block.
 fn forward_pass(
     tally: Tally,
     ws: &mut [u8],
@@ -92,7 +119,7 @@ fn forward_pass(
     t
 }
 
-// Backward: each line meets the extreme of the rest of its block.
+// Walks backward: each line meets the extreme of the rest of its block.
 fn backward_pass(
     tally: Tally,
     ws: &mut [u8],
@@ -121,7 +148,7 @@ fn backward_pass(
     t
 }
 
-// Joining: the backward extreme at low meets the forward one at high.
+// Joins both: the backward extreme at low meets the forward one at high.
 fn join_pass(
     tally: Tally,
     ws: &mut [u8],
@@ -134,7 +161,8 @@ fn join_pass(
     least: bool,
 ) -> Tally
     requires { ⌜ JoinReady tally (now ws) suffix prefix to kernel width height ⌝ }
-    ensures { λ r. ⌜ JoinPassed tally (now (ws .entry)) suffix prefix to kernel width height least r (now (ws .exit)) ⌝ }
+    ensures { λ r.
+        ⌜ JoinPassed tally (now (ws .entry)) suffix prefix to kernel width height least r (now (ws .exit)) ⌝ }
 {
     let radius = (kernel - 1) / 2;
     let mut t = tally;
@@ -150,31 +178,44 @@ fn join_pass(
     t
 }
 
-// The sliding extreme along each of `width` lanes of `height` samples, from one plane to another or back to the same.
+// Slides the extreme along each of `width` lanes of `height` samples, from one plane to another or back to the same.
 // The scratch holds the forward extremes, then the backward ones.
 pub(crate) fn running_extremum_1d(
     tally: Tally,
     ws: &mut [u8],
-    from: usize,
-    to: usize,
-    spare: usize,
+    planes: Planes,
     kernel: usize,
-    width: usize,
-    height: usize,
     least: bool,
 ) -> Tally
-    requires { ⌜ LinesReady tally (now ws) from to spare kernel width height ⌝ }
-    ensures { λ r. ⌜ LinesSwept tally (now (ws .entry)) from to spare kernel width height least r (now (ws .exit)) ⌝ }
+    requires { ⌜ LinesReady tally (now ws) planes kernel ⌝ }
+    ensures { λ r. ⌜ LinesSwept tally (now (ws .entry)) planes kernel least r (now (ws .exit)) ⌝ }
 {
+    let from = planes.from;
+    let spare = planes.spare;
+    let width = planes.width;
+    let height = planes.height;
     let suffix = spare + width * height;
     let a = forward_pass(tally, ws, from, spare, kernel, width, height, least);
     let b = backward_pass(a, ws, from, suffix, kernel, width, height, least);
-    join_pass(b, ws, suffix, spare, to, kernel, width, height, least)
+    join_pass(
+        b,
+        ws,
+        suffix,
+        spare,
+        planes.to,
+        kernel,
+        width,
+        height,
+        least,
+    )
 }
 
-// Column x of a plane whose rows are `step` long, as a row of `count` samples.
+// Copies column x of a plane whose rows are `step` long, as a row of `count` samples.
 fn turn_column(ws: &mut [u8], from: usize, x: usize, step: usize, to: usize, count: usize)
-    requires { ⌜ (from + step * count ≤ length (now ws)) × (to + count ≤ length (now ws)) × (x < step) × Apart from (step * count) to count ⌝ }
+    requires { ⌜
+        (from + step * count ≤ length (now ws)) × (to + count ≤ length (now ws)) × (x < step) ×
+        Apart from (step * count) to count
+        ⌝ }
     ensures { λ _. ⌜ Rowed to count (λ y. lane (now (ws .entry)) from step x y) (now (ws .entry)) (now (ws .exit)) ⌝ }
 {
     let mut y = 0;
@@ -184,7 +225,7 @@ fn turn_column(ws: &mut [u8], from: usize, x: usize, step: usize, to: usize, cou
     }
 }
 
-// A plane of `rows` rows of `columns` samples, turned: its columns as the rows of another plane.
+// Turns a plane of `rows` rows of `columns` samples: its columns become the rows of another plane.
 fn turn(ws: &mut [u8], from: usize, to: usize, rows: usize, columns: usize)
     requires { ⌜ TurnReady (now ws) from to rows columns ⌝ }
     ensures { λ _. ⌜ Turned (now (ws .entry)) from to rows columns (now (ws .exit)) ⌝ }
@@ -196,10 +237,10 @@ fn turn(ws: &mut [u8], from: usize, to: usize, rows: usize, columns: usize)
     }
 }
 
-// Rows that are turned and swept together.
+// So many rows are turned and swept together.
 const STRIP: usize = 32;
 
-// How many of the rows that are left make the next strip.
+// Chooses how many of the rows that are left make the next strip.
 pub(crate) fn strip_of(left: usize) -> usize
     requires { ⌜ 0 < left ⌝ }
     ensures { λ r. ⌜ (0 < r) × (r ≤ left) ⌝ }
@@ -207,24 +248,30 @@ pub(crate) fn strip_of(left: usize) -> usize
     if left < STRIP { left } else { STRIP }
 }
 
-// The sweep along each row of a strip: its rows are turned to lanes, swept, and turned back.
+// Sweeps along each row of a strip: turns its rows to lanes, sweeps these, and turns them back.
 pub(crate) fn sweep_strip(
     tally: Tally,
     ws: &mut [u8],
-    from: usize,
-    to: usize,
-    spare: usize,
+    planes: Planes,
     kernel: usize,
-    width: usize,
-    height: usize,
     least: bool,
 ) -> Tally
-    requires { ⌜ SweepReady tally (now ws) from to spare kernel width height ⌝ }
-    ensures { λ r. ⌜ RowsSwept tally (now (ws .entry)) from to spare kernel width height least r (now (ws .exit)) ⌝ }
+    requires { ⌜ SweepReady tally (now ws) planes kernel ⌝ }
+    ensures { λ r. ⌜ RowsSwept tally (now (ws .entry)) planes kernel least r (now (ws .exit)) ⌝ }
 {
+    let spare = planes.spare;
+    let width = planes.width;
+    let height = planes.height;
     let lines = spare + width * height;
-    turn(ws, from, spare, height, width);
-    let t = running_extremum_1d(tally, ws, spare, spare, lines, kernel, height, width, least);
-    turn(ws, spare, to, width, height);
+    let turned = Planes {
+        from: spare,
+        to: spare,
+        spare: lines,
+        width: height,
+        height: width,
+    };
+    turn(ws, planes.from, spare, height, width);
+    let t = running_extremum_1d(tally, ws, turned, kernel, least);
+    turn(ws, spare, planes.to, width, height);
     t
 }

@@ -78,9 +78,8 @@ module _ (Asks : Tally → List ℕ → Nums → Type 0) (Says : Tally → List 
         qed W (raw (Sweep .post to w) ∷ []) ∵ updating ! $
         use1 W (later (some (λ (u : Unit {0}). (toks ⊛ ‵ (Nothing .own u (w ∷ []))) ⊛
         raw (ensured 𝓤 H A sweep.ended (thinClauses Asks Says 𝓤) (ν, (κ₁, tt)) a tt u)))) (id⊢ 𝓤 _) $ await ! tt $ pick ! (λ u. split ! $ move ! (1 ∷ []) $
-        use1 W (some (λ (ls : Tally × (List ℕ × (Unit {0} × (Unit {0} × (Unit {0} × (Unit {0} × (Unit {0} × (Unit {0} × (Unit {0} × Unit {0}))))))))).
-        ‵ (lasts sweep.ended (ν, (κ₁, tt)) a ls) ⊛ raw (fact 𝓤 (Says h (ws .now) x (ls .0) (ls .1 .0))))) (id⊢ 𝓤 _) $ pick ! (λ ls. split ! $
-        move ! (1 ∷ []) $
+        use1 W (some (λ (ls : Tally × (List ℕ × (Unit {0} × (Unit {0} × (Unit {0} × Unit {0}))))). ‵ (lasts sweep.ended (ν, (κ₁, tt)) a ls) ⊛
+        raw (fact 𝓤 (Says h (ws .now) x (ls .0) (ls .1 .0))))) (id⊢ 𝓤 _) $ pick ! (λ ls. split ! $ move ! (1 ∷ []) $
         heard ! (Says h (ws .now) x (ls .0) (ls .1 .0)) (λ e. fsplit ! $ move ! (1 ∷ []) $ fsplit ! $ fsplit ! $ move ! (1 ∷ []) $
         feqL ! (λ len-ws. move ! (1 ∷ []) $ drop ! $ move ! (2 ∷ []) $ split ! $ move ! (1 ∷ []) $ feqL ! (λ v.
         -- [0: toks; 1: fin-ws; 2: res]

@@ -4,59 +4,57 @@
 use mathlib.Core.Bool.{Bool}
 use Prim.Native.Nat.{ℕ, _<_, _^_}
 use mathlib.Core.List.{List}
+use denote.Struct.Laws as LL
 use Rattle.imgproc.specs.declared.morphology.tally.Tally.{Tally}
+use Rattle.imgproc.specs.declared.morphology.sweeps.Planes.{Planes}
+use Rattle.imgproc.proofs.morphology.sweeps.Planes as P
+use Rattle.imgproc.proofs.morphology.sweeps.Planes.Laws as P′
 use Rattle.imgproc.specs.Sweeps.{MorphReady, Morphed}
-use Rattle.imgproc.proofs.morphology.rect.Thin.{Nums, NumsFit}
+use Rattle.imgproc.proofs.morphology.rect.Thin.{Nums, NumsFit, PlanesFit}
 
 -- its numbers, and the name of each
 abbrev pub Own : Type 0
-Own = ℕ × (ℕ × (ℕ × (ℕ × (ℕ × (ℕ × (ℕ × (Bool × Unit {0})))))))
+Own = Planes × (ℕ × (ℕ × (Bool × Unit {0})))
 
-abbrev pub from : Own → ℕ
-from x = x .0
-
-abbrev pub to : Own → ℕ
-to x = x .1 .0
-
-abbrev pub spare : Own → ℕ
-spare x = x .1 .1 .0
+abbrev pub planes : Own → Planes
+planes x = x .0
 
 abbrev pub kernel-width : Own → ℕ
-kernel-width x = x .1 .1 .1 .0
+kernel-width x = x .1 .0
 
 abbrev pub kernel-height : Own → ℕ
-kernel-height x = x .1 .1 .1 .1 .0
-
-abbrev pub width : Own → ℕ
-width x = x .1 .1 .1 .1 .1 .0
-
-abbrev pub height : Own → ℕ
-height x = x .1 .1 .1 .1 .1 .1 .0
+kernel-height x = x .1 .1 .0
 
 abbrev pub least : Own → Bool
-least x = x .1 .1 .1 .1 .1 .1 .1 .0
+least x = x .1 .1 .1 .0
+
+abbrev pub in-place : Own → Planes
+in-place x = record { from = planes x .to; to = planes x .to; spare = planes x .spare; width = planes x .width; height = planes x .height }
 
 abbrev pub OwnFit : Own → Type 0
-OwnFit x = (x .0 < 2 ^ 64) × ((x .1 .0 < 2 ^ 64) × ((x .1 .1 .0 < 2 ^ 64) × ((x .1 .1 .1 .0 < 2 ^ 64) ×
-    ((x .1 .1 .1 .1 .0 < 2 ^ 64) × ((x .1 .1 .1 .1 .1 .0 < 2 ^ 64) × (x .1 .1 .1 .1 .1 .1 .0 < 2 ^ 64))))))
+OwnFit x = PlanesFit (x .0) × ((x .1 .0 < 2 ^ 64) × (x .1 .1 .0 < 2 ^ 64))
+
+pub in-place-fit : (x : Own) → OwnFit x → PlanesFit (in-place x)
+in-place-fit x fit = let f = LL.owed P.the-type P′.the-laws (planes x) _ (fit .0) in LL.owes P.the-type P′.the-laws (in-place x)
+    (f .1 .0, (f .1 .0, (f .1 .1 .0, (f .1 .1 .1 .0, (f .1 .1 .1 .1 .0, tt)))))
 
 -- the numbers of each call, and that they fit
 abbrev pub num-1 : Own → Nums
-num-1 x = (from x, (to x, (spare x, (kernel-width x, (width x, (height x, (least x, tt)))))))
+num-1 x = (planes x, (kernel-width x, (least x, tt)))
 
 pub fit-1 : (x : Own) → OwnFit x → NumsFit (num-1 x)
-fit-1 x fit = (fit .0, (fit .1 .0, (fit .1 .1 .0, (fit .1 .1 .1 .0, (fit .1 .1 .1 .1 .1 .0, fit .1 .1 .1 .1 .1 .1)))))
+fit-1 x fit = (fit .0, fit .1 .0)
 
 abbrev pub num-2 : Own → Nums
-num-2 x = (to x, (to x, (spare x, (kernel-height x, (width x, (height x, (least x, tt)))))))
+num-2 x = (in-place x, (kernel-height x, (least x, tt)))
 
 pub fit-2 : (x : Own) → OwnFit x → NumsFit (num-2 x)
-fit-2 x fit = (fit .1 .0, (fit .1 .0, (fit .1 .1 .0, (fit .1 .1 .1 .1 .0, (fit .1 .1 .1 .1 .1 .0, fit .1 .1 .1 .1 .1 .1)))))
+fit-2 x fit = (in-place-fit x fit, fit .1 .1)
 
 -- what is asked
 abbrev pub Asked : Tally → List ℕ → Own → Type 0
-Asked t d x = MorphReady t d (from x) (to x) (spare x) (kernel-width x) (kernel-height x) (width x) (height x)
+Asked t d x = MorphReady t d (planes x) (kernel-width x) (kernel-height x)
 
 -- what is said of the tally and the list at entry, of the tally that is returned, and of the list at exit
 abbrev pub Done : Tally → List ℕ → Own → Tally → List ℕ → Type 0
-Done t d x r d′ = Morphed t d (from x) (to x) (spare x) (kernel-width x) (kernel-height x) (width x) (height x) (least x) r d′
+Done t d x r d′ = Morphed t d (planes x) (kernel-width x) (kernel-height x) (least x) r d′

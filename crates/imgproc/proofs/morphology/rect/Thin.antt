@@ -56,66 +56,57 @@ use denote.Exit.{yes}
 use Rattle.imgproc.specs.declared.morphology.tally.Tally.{Tally}
 use Rattle.imgproc.proofs.morphology.tally.Tally as T
 use Rattle.imgproc.proofs.morphology.tally.Tally.Laws as T′
+use Rattle.imgproc.specs.declared.morphology.sweeps.Planes.{Planes}
+use Rattle.imgproc.proofs.morphology.sweeps.Planes as P
+use Rattle.imgproc.proofs.morphology.sweeps.Planes.Laws as P′
 use Rattle.imgproc.proofs.morphology.rect.row_core as core
 use Rattle.imgproc.proofs.morphology.rect.sweep_rows as own
 
 -- ---- the plain parameters
+-- the machine value of a struct of planes, and that its numbers fit
+abbrev pub planesVal : Planes → Val
+planesVal p = LL.val P.the-type P′.the-laws p
+
+abbrev pub PlanesFit : Planes → Type 0
+PlanesFit p = Is P.the-row p (planesVal p ∷ [])
+
 abbrev pub Nums : Type 0
-Nums = ℕ × (ℕ × (ℕ × (ℕ × (ℕ × (ℕ × (Bool × Unit {0}))))))
+Nums = Planes × (ℕ × (Bool × Unit {0}))
 
 abbrev pub NumsFit : Nums → Type 0
-NumsFit x = (x .0 < 2 ^ 64) × ((x .1 .0 < 2 ^ 64) × ((x .1 .1 .0 < 2 ^ 64) × ((x .1 .1 .1 .0 < 2 ^ 64) ×
-    ((x .1 .1 .1 .1 .0 < 2 ^ 64) × (x .1 .1 .1 .1 .1 .0 < 2 ^ 64)))))
+NumsFit x = PlanesFit (x .0) × (x .1 .0 < 2 ^ 64)
 
 abbrev pub NumVals : Type 0
-NumVals = List Val × (List Val × (List Val × (List Val × (List Val × (List Val × (List Val × Unit {0}))))))
+NumVals = List Val × (List Val × (List Val × Unit {0}))
 
 abbrev pub numVals : Nums → NumVals
-numVals x = (
-  vint w64 (x .0) ∷ [],
-  (
-    vint w64 (x .1 .0) ∷ [],
-    (
-      vint w64 (x .1 .1 .0) ∷ [],
-      (
-        vint w64 (x .1 .1 .1 .0) ∷ [],
-        (vint w64 (x .1 .1 .1 .1 .0) ∷ [], (vint w64 (x .1 .1 .1 .1 .1 .0) ∷ [], (vbool (x .1 .1 .1 .1 .1 .1 .0) ∷ [], tt))),
-      ),
-    ),
-  ),
-)
+numVals x = (planesVal (x .0) ∷ [], (vint w64 (x .1 .0) ∷ [], (vbool (x .1 .1 .0) ∷ [], tt)))
 
 abbrev pub numOwn : Nums → Fml
-numOwn x = owns (usize ∷ usize ∷ usize ∷ usize ∷ usize ∷ usize ∷ bool ∷ []) x (numVals x)
+numOwn x = owns (P.the-row ∷ usize ∷ bool ∷ []) x (numVals x)
 
 pub has-nums : {M : Type 1} (𝓤 : URA M) (H : Heap 𝓤) (A : Atoms 𝓤) (W : Given 𝓤 H A) (x : Nums) → NumsFit x → ent 𝓤 (emp 𝓤) (sem 𝓤 H A (numOwn x))
 has-nums 𝓤 H A W x f =
-    qed W [] ∵ nothing ! $ owned ! bool (Is bool) (bool-makes 𝓤 H A W) (x .1 .1 .1 .1 .1 .1 .0) _ refl $ fjoin ! $
-    owned ! usize (Is usize) (uint-makes 𝓤 H A W w64) (x .1 .1 .1 .1 .1 .0) _ (refl, f .1 .1 .1 .1 .1) $ fjoin ! $
-    owned ! usize (Is usize) (uint-makes 𝓤 H A W w64) (x .1 .1 .1 .1 .0) _ (refl, f .1 .1 .1 .1 .0) $ fjoin ! $
-    owned ! usize (Is usize) (uint-makes 𝓤 H A W w64) (x .1 .1 .1 .0) _ (refl, f .1 .1 .1 .0) $ fjoin ! $
-    owned ! usize (Is usize) (uint-makes 𝓤 H A W w64) (x .1 .1 .0) _ (refl, f .1 .1 .0) $ fjoin ! $
-    owned ! usize (Is usize) (uint-makes 𝓤 H A W w64) (x .1 .0) _ (refl, f .1 .0) $ fjoin ! $
-    owned ! usize (Is usize) (uint-makes 𝓤 H A W w64) (x .0) _ (refl, f .0) $ fjoin ! $ done !
+    qed W [] ∵ nothing ! $ owned ! bool (Is bool) (bool-makes 𝓤 H A W) (x .1 .1 .0) _ refl $ fjoin ! $
+    owned ! usize (Is usize) (uint-makes 𝓤 H A W w64) (x .1 .0) _ (refl, f .1) $ fjoin ! $
+    owned ! P.the-row (Is P.the-row) ((LL.makes P.the-type P′.the-plain) 𝓤 H A) (x .0) _ (f .0) $ fjoin ! $ done !
 
 -- ---- the MIR
 abbrev pub thin : Name → Fn
 thin f = record {
   lifetimes = 2;
   outlives = [];
-  params = 9;
+  params = 5;
   locals = local tyUnit valueLocal ∷ local (tyRef (named 0) mut (pointee (T.the-row .written))) valueLocal ∷
-      local (sliceTy (tyRef (named 1) mut (tyInt w8))) valueLocal ∷ local (tyInt w64) valueLocal ∷ local (tyInt w64) valueLocal ∷
-      local (tyInt w64) valueLocal ∷ local (tyInt w64) valueLocal ∷ local (tyInt w64) valueLocal ∷ local (tyInt w64) valueLocal ∷ local tyBool valueLocal ∷
+      local (sliceTy (tyRef (named 1) mut (tyInt w8))) valueLocal ∷ local P′.mir valueLocal ∷ local (tyInt w64) valueLocal ∷ local tyBool valueLocal ∷
       local T′.mir valueLocal ∷ local T′.mir valueLocal ∷ local (tyRef erased mut (tyInt w8)) valueLocal ∷
       local (sliceTy (tyRef erased mut (tyInt w8))) valueLocal ∷ [];
   body =
-      seq (assign (place 11 []) (rvOpd (copy (place 1 (deref T′.mir ∷ [])))))
-      (seq (assign (place 12 []) (addrOf (place 2 (field 0 ∷ deref (tyInt w8) ∷ []))))
-      (seq (assign (place 13 []) (aggregate (copy (place 12 []) ∷ copy (place 2 (field 1 ∷ [])) ∷ [])))
-      (seq (call f (copy (place 11 []) ∷ copy (place 13 []) ∷ copy (place 3 []) ∷ copy (place 4 []) ∷ copy (place 5 []) ∷ copy (place 6 []) ∷
-      copy (place 7 []) ∷ copy (place 8 []) ∷ copy (place 9 []) ∷ []) (place 10 []))
-      (seq (assign (place 1 (deref T′.mir ∷ [])) (rvOpd (copy (place 10 []))))
+      seq (assign (place 7 []) (rvOpd (copy (place 1 (deref T′.mir ∷ [])))))
+      (seq (assign (place 8 []) (addrOf (place 2 (field 0 ∷ deref (tyInt w8) ∷ []))))
+      (seq (assign (place 9 []) (aggregate (copy (place 8 []) ∷ copy (place 2 (field 1 ∷ [])) ∷ [])))
+      (seq (call f (copy (place 7 []) ∷ copy (place 9 []) ∷ copy (place 3 []) ∷ copy (place 4 []) ∷ copy (place 5 []) ∷ []) (place 6 []))
+      (seq (assign (place 1 (deref T′.mir ∷ [])) (rvOpd (copy (place 6 []))))
       (seq (assign (place 0 []) (rvOpd opdUnit))
       return)))));
 }
@@ -123,19 +114,7 @@ thin f = record {
 abbrev stayed : Stays (own.ended .signature .params) (own.ended .kept)
 stayed = (
   stay-ref (0 ∷ []) tt (plain (λ _. T.the-row)),
-  (
-    gave-slice (1 ∷ []) tt (plain (λ _. u8)),
-    (
-      stay-none (λ _. usize) yes,
-      (
-        stay-none (λ _. usize) yes,
-        (
-          stay-none (λ _. usize) yes,
-          (stay-none (λ _. usize) yes, (stay-none (λ _. usize) yes, (stay-none (λ _. usize) yes, (stay-none (λ _. bool) yes, tt)))),
-        ),
-      ),
-    ),
-  ),
+  (gave-slice (1 ∷ []) tt (plain (λ _. u8)), (stay-none (λ _. P.the-row) yes, (stay-none (λ _. usize) yes, (stay-none (λ _. bool) yes, tt)))),
 )
 
 module _ (Asks : Tally → List ℕ → Nums → Type 0) (Says : Tally → List ℕ → Nums → Tally → List ℕ → Type 0) where
@@ -172,8 +151,7 @@ module _ (Asks : Tally → List ℕ → Nums → Type 0) (Says : Tally → List 
     vals = (vptr b o ∷ [], (v-ws ∷ [], numVals x))
 
     abbrev passed : List Val
-    passed = vptr b o ∷ v-ws ∷ vint w64 (x .0) ∷ vint w64 (x .1 .0) ∷ vint w64 (x .1 .1 .0) ∷ vint w64 (x .1 .1 .1 .0) ∷ vint w64 (x .1 .1 .1 .1 .0) ∷
-        vint w64 (x .1 .1 .1 .1 .1 .0) ∷ vbool (x .1 .1 .1 .1 .1 .1 .0) ∷ []
+    passed = vptr b o ∷ v-ws ∷ planesVal (x .0) ∷ vint w64 (x .1 .0) ∷ vbool (x .1 .1 .0) ∷ []
 
     abbrev Post : Val → SProp 𝓤
     Post = walkOf 𝓤 H A own.ended stayed (thinClauses 𝓤) .post (((κ₀, (κ₁, tt)), (q₀, (q₁, tt)), tt, a, vals), tt)
@@ -205,7 +183,7 @@ module _ (Asks : Tally → List ℕ → Nums → Type 0) (Says : Tally → List 
         qed W (‵ (fobs γ (T.the-row .coded .code r)) ∷ ‵ (fbor κ₀ (Body (mem T.the-row) b o γ)) ∷ ‵ (flft κ₀ q₀) ∷ toks ∷ ‵ (finally u8 (ws .name) zs-ws) ∷
         []) ∵
         suffices ! _ (ends-at 𝓤 H A own.ended stayed (thinClauses 𝓤) W (((κ₀, (κ₁, tt)), (q₀, (q₁, tt)), tt, a, vals), tt) vunit tt
-        (r, (zs-ws, (tt, (tt, (tt, (tt, (tt, (tt, (tt, tt))))))))) (tt, (len-ws, (tt, (tt, (tt, (tt, (tt, (tt, (tt, tt)))))))))) $ says ! e $
+        (r, (zs-ws, (tt, (tt, (tt, tt))))) (tt, (len-ws, (tt, (tt, (tt, tt)))))) $ says ! e $
         move ! (2 ∷ 3 ∷ []) $ join ! $ frame ! $ feqI ! (List Val) (vptr b o ∷ []) (vptr b o ∷ []) refl $ fjoin3 ! $
         use0 W (‵ (numOwn x)) (has-nums 𝓤 H A W x fit) $
         move ! (2 ∷ 0 ∷ []) $ fjoin ! $ move ! (1 ∷ 0 ∷ []) $ fjoin ! $ feqI ! (List Val) (vunit ∷ []) (vunit ∷ []) refl $ move ! (1 ∷ 0 ∷ []) $ done !
@@ -213,77 +191,63 @@ module _ (Asks : Tally → List ℕ → Nums → Type 0) (Says : Tally → List 
     module _ (f : Name) (C : Calls 𝓤 H) (Λ : Loops 𝓤 H) (fm : FmC 𝓤 H (W .laws) C) (known : Triple 𝓤 (C f) (Core 𝓤 H A)) where
       walk : Room u8 (length (ws .now)) → ent 𝓤 (onEntry 𝓤 H A own.signature (κ₀, (κ₁, tt)) (q₀, (q₁, tt)) a vals) (WpFn 𝓤 H C Λ (thin f) passed Post)
       walk room-ws =
-          qed W ((‵ (flft κ₀ q₀) ⊛ toks) ∷ ‵ (owns (MutRef (named 0) κ₀ T.the-row ∷ MutSlice (named 1) κ₁ u8 ∷ usize ∷ usize ∷ usize ∷ usize ∷ usize ∷
-          usize ∷ bool ∷ []) a vals) ∷ []) ∵
+          qed W ((‵ (flft κ₀ q₀) ⊛ toks) ∷ ‵ (owns (MutRef (named 0) κ₀ T.the-row ∷ MutSlice (named 1) κ₁ u8 ∷ P.the-row ∷ usize ∷ bool ∷ []) a vals) ∷
+          []) ∵
           split ! $ move ! (2 ∷ []) $ fsplit ! $ fsplit3 ! $ drop ! $ move ! (2 ∷ []) $ fsplit ! $ move ! (1 ∷ []) $ drop ! $
           enter ! C Λ (thin f) passed _ $
           alloc1 ! (λ l₀. alloc1 ! (λ l₁. alloc1 ! (λ l₂. alloc1 ! (λ l₃. alloc1 ! (λ l₄. alloc1 ! (λ l₅. alloc1 ! (λ l₆. alloc1 ! (λ l₇. alloc1 ! (λ l₈.
-          alloc1 ! (λ l₉. alloc1 ! (λ l₁₀. alloc1 ! (λ l₁₁. alloc1 ! (λ l₁₂. alloc1 ! (λ l₁₃. alloc0 ! $ params1 ! $
-          pass1 ! (init ! 24 refl (tt, tt)) $ pass1 ! (init ! 22 refl (tt, (tt, (record { fits = room-ws .0 }, tt)))) $
-          pass1 ! (init ! 20 refl (tt, record { fits = fit .0 })) $ pass1 ! (init ! 18 refl (tt, record { fits = fit .1 .0 })) $
-          pass1 ! (init ! 16 refl (tt, record { fits = fit .1 .1 .0 })) $ pass1 ! (init ! 14 refl (tt, record { fits = fit .1 .1 .1 .0 })) $
-          pass1 ! (init ! 12 refl (tt, record { fits = fit .1 .1 .1 .1 .0 })) $ pass1 ! (init ! 10 refl (tt, record { fits = fit .1 .1 .1 .1 .1 })) $
-          pass1 ! (init ! 8 refl (tt, tt)) $ pass0 ! $
-          move ! (29 ∷ 30 ∷ 31 ∷ []) $ opens ! tt T.the-row {h = h} b o (λ us. spelt ! T.the-row (Is T.the-row) (shows 𝓤 H A T.the-row)
+          alloc1 ! (λ l₉. alloc0 ! $ params1 ! $
+          pass1 ! (init ! 16 refl (tt, tt)) $ pass1 ! (init ! 14 refl (tt, (tt, (record { fits = room-ws .0 }, tt)))) $
+          pass1 ! (init ! 12 refl (LL.lawful P.the-type P′.the-laws 𝓤 H A W .typed (x .0) _ (fit .0) .0)) $
+          pass1 ! (init ! 10 refl (tt, record { fits = fit .1 })) $ pass1 ! (init ! 8 refl (tt, tt)) $ pass0 ! $
+          move ! (21 ∷ 22 ∷ 23 ∷ []) $ opens ! tt T.the-row {h = h} b o (λ us. spelt ! T.the-row (Is T.the-row) (shows 𝓤 H A T.the-row)
           (LL.vals T.the-type T′.the-laws) (LL.tells T.the-type T′.the-laws) fullShare h us b o $
           move ! (1 ∷ []) $ peeks ! T.the-row (Is T.the-row) (shows 𝓤 H A T.the-row) h _ (λ was. drop ! $
-          -- [0: cell; 1: obor; 2: obs; 3: auth; 4: _13; 6: _12; 8: _11; 10: _10; 12: _9; 14: _8; 16: _7; 18: _6; 20: _5; 22: _4; 24: _3; 26: _2; 28: _1;
-          --   30: _0; 32: ws; 33: toks]
-          assigns ! (of-opd ! (load ! (from ! (hop ! (look ! 28 refl) (stop !))) (look-raw ! 0 refl))) (from ! (stop !))
+          -- [0: cell; 1: obor; 2: obs; 3: auth; 4: _9; 6: _8; 8: _7; 10: _6; 12: _5; 14: _4; 16: _3; 18: _2; 20: _1; 22: _0; 24: ws; 25: toks]
+          assigns ! (of-opd ! (load ! (from ! (hop ! (look ! 20 refl) (stop !))) (look-raw ! 0 refl))) (from ! (stop !))
           (init ! 8 refl (LL.lawful T.the-type T′.the-laws 𝓤 H A W .typed h _ was .0)) $
-          assigns ! (addr ! (from ! (fld ! refl (hop ! (look-in ! 26 (sub ! 0 refl (whole !))) (stop !))))) (from ! (stop !)) (init ! 6 refl (tt, tt)) $
+          assigns ! (addr ! (from ! (fld ! refl (hop ! (look-in ! 18 (sub ! 0 refl (whole !))) (stop !))))) (from ! (stop !)) (init ! 6 refl (tt, tt)) $
           assigns ! (agg ! (and-then ! (load ! (from ! (stop !)) (look ! 6 refl)) (and-then ! (load ! (from ! (fld ! refl (stop !)))
-          (look-in ! 26 (sub ! 1 refl (whole !)))) (no-more !)))) (from ! (stop !)) (init ! 4 refl (tt, (tt, (record { fits = room-ws .0 }, tt)))) $
+          (look-in ! 18 (sub ! 1 refl (whole !)))) (no-more !)))) (from ! (stop !)) (init ! 4 refl (tt, (tt, (record { fits = room-ws .0 }, tt)))) $
           -- the call
-          move ! (33 ∷ 32 ∷ []) $ group ! 2 $ use1 W (raw (Core 𝓤 H A .pre (to-core _))) (goes-core _ was) $
+          move ! (25 ∷ 24 ∷ []) $ group ! 2 $ use1 W (raw (Core 𝓤 H A .pre (to-core _))) (goes-core _ was) $
           calls-at ! fm (Core 𝓤 H A) known (to-core _) (and-then ! (load ! (from ! (stop !)) (look ! 9 refl))
-          (and-then ! (load ! (from ! (stop !)) (look ! 5 refl)) (and-then ! (load ! (from ! (stop !)) (look ! 25 refl))
-          (and-then ! (load ! (from ! (stop !)) (look ! 23 refl)) (and-then ! (load ! (from ! (stop !)) (look ! 21 refl))
-          (and-then ! (load ! (from ! (stop !)) (look ! 19 refl)) (and-then ! (load ! (from ! (stop !)) (look ! 17 refl))
-          (and-then ! (load ! (from ! (stop !)) (look ! 15 refl)) (and-then ! (load ! (from ! (stop !)) (look ! 13 refl)) (no-more !)))))))))) (λ w.
+          (and-then ! (load ! (from ! (stop !)) (look ! 5 refl)) (and-then ! (load ! (from ! (stop !)) (look ! 17 refl))
+          (and-then ! (load ! (from ! (stop !)) (look ! 15 refl)) (and-then ! (load ! (from ! (stop !)) (look ! 13 refl)) (no-more !)))))) (λ w.
           use1 W (later (some (λ (r : Tally). (toks ⊛ ‵ (T.the-row .own r (w ∷ []))) ⊛ raw (ensured 𝓤 H A core.ended (coreClauses 𝓤) (κ₁, tt) coreA tt r))))
           (id⊢ 𝓤 _) $ await ! tt $ pick ! (λ r. split ! $ move ! (1 ∷ []) $
-          use1 W (some (λ (ls : Unit {0} × (List ℕ × (Unit {0} × (Unit {0} × (Unit {0} × (Unit {0} × (Unit {0} × (Unit {0} × (Unit {0} × Unit {0}))))))))).
-          ‵ (lasts core.ended (κ₁, tt) coreA ls) ⊛ raw (fact 𝓤 (Says h (ws .now) x r (ls .1 .0))))) (id⊢ 𝓤 _) $ pick ! (λ ls. split ! $ move ! (1 ∷ []) $
+          use1 W (some (λ (ls : Unit {0} × (List ℕ × (Unit {0} × (Unit {0} × (Unit {0} × Unit {0}))))). ‵ (lasts core.ended (κ₁, tt) coreA ls) ⊛
+          raw (fact 𝓤 (Says h (ws .now) x r (ls .1 .0))))) (id⊢ 𝓤 _) $ pick ! (λ ls. split ! $ move ! (1 ∷ []) $
           heard ! (Says h (ws .now) x r (ls .1 .0)) (λ e. fsplit ! $ drop ! $ fsplit ! $ fsplit ! $ move ! (1 ∷ []) $ feqL ! (λ len-ws. move ! (1 ∷ []) $
           drop ! $ move ! (1 ∷ []) $ split ! $ move ! (1 ∷ []) $
-          -- [0: own-r; 1: toks; 2: fin-ws; 3: cell; 4: obor; 5: obs; 6: auth; 7: _13; 9: _12; 11: _11; 13: _10; 15: _9; 17: _8; 19: _7; 21: _6; 23: _5;
-          --   25: _4; 27: _3; 29: _2; 31: _1; 33: _0]
+          -- [0: own-r; 1: toks; 2: fin-ws; 3: cell; 4: obor; 5: obs; 6: auth; 7: _9; 9: _8; 11: _7; 13: _6; 15: _5; 17: _4; 19: _3; 21: _2; 23: _1; 25: _0]
           peeks ! T.the-row (Is T.the-row) (shows 𝓤 H A T.the-row) r (w ∷ []) (λ is. land ! (from ! (stop !))
           (init ! 13 refl (LL.lawful T.the-type T′.the-laws 𝓤 H A W .typed r _ is .0)) $
-          assigns ! (of-opd ! (load ! (from ! (stop !)) (look ! 13 refl))) (from ! (hop ! (look ! 31 refl) (stop !)))
+          assigns ! (of-opd ! (load ! (from ! (stop !)) (look ! 13 refl))) (from ! (hop ! (look ! 23 refl) (stop !)))
           (store-raw ! 3 refl (LL.lawful T.the-type T′.the-laws 𝓤 H A W .typed r _ is .0)) $
-          assigns ! (of-opd ! (unit-lit !)) (from ! (stop !)) (init ! 33 refl (tt, tt)) $
+          assigns ! (of-opd ! (unit-lit !)) (from ! (stop !)) (init ! 25 refl (tt, tt)) $
           move ! (3 ∷ 0 ∷ 4 ∷ 5 ∷ 6 ∷ []) $ closes ! tt T.the-row r (w ∷ []) b o $
-          -- [0: obs; 1: bor; 2: tok0; 3: toks; 4: fin-ws; 5: _13; 7: _12; 9: _11; 11: _10; 13: _9; 15: _8; 17: _7; 19: _6; 21: _5; 23: _4; 25: _3; 27: _2;
-          --   29: _1; 31: _0]
-          returns ! (look ! 31 refl) $
+          -- [0: obs; 1: bor; 2: tok0; 3: toks; 4: fin-ws; 5: _9; 7: _8; 9: _7; 11: _6; 13: _5; 15: _4; 17: _3; 19: _2; 21: _1; 23: _0]
+          returns ! (look ! 23 refl) $
           forget ! 5 refl $ forget ! 7 refl $ forget ! 9 refl $ forget ! 11 refl $ forget ! 13 refl $ forget ! 15 refl $ forget ! 17 refl $
-          forget ! 19 refl $ forget ! 21 refl $ forget ! 23 refl $ forget ! 25 refl $ forget ! 27 refl $ forget ! 29 refl $ forget ! 31 refl $
-          move ! (31 ∷ 32 ∷ []) $ free1 ! $ move ! (29 ∷ 30 ∷ []) $ free1 ! $ move ! (27 ∷ 28 ∷ []) $ free1 ! $ move ! (25 ∷ 26 ∷ []) $ free1 ! $
+          forget ! 19 refl $ forget ! 21 refl $ forget ! 23 refl $
           move ! (23 ∷ 24 ∷ []) $ free1 ! $ move ! (21 ∷ 22 ∷ []) $ free1 ! $ move ! (19 ∷ 20 ∷ []) $ free1 ! $ move ! (17 ∷ 18 ∷ []) $ free1 ! $
           move ! (15 ∷ 16 ∷ []) $ free1 ! $ move ! (13 ∷ 14 ∷ []) $ free1 ! $ move ! (11 ∷ 12 ∷ []) $ free1 ! $ move ! (9 ∷ 10 ∷ []) $ free1 ! $
           move ! (7 ∷ 8 ∷ []) $ free1 ! $ move ! (5 ∷ 6 ∷ []) $ free1 ! $ free0 ! $
-          by ! (exits r (ls .1 .0) e len-ws)))))))))))))))))))))))
+          by ! (exits r (ls .1 .0) e len-ws)))))))))))))))))))
 
   module _ {M : Type 1} (𝓤 : URA M) (H : Heap 𝓤) (A : Atoms 𝓤) (W : Given 𝓤 H A) (f : Name) where
     thin-walks : (C : Calls 𝓤 H) (Λ : Loops 𝓤 H) → FmC 𝓤 H (W .laws) C → Triple 𝓤 (C f) (Core 𝓤 H A) →
         Walks 𝓤 H A own.ended stayed (WpFn 𝓤 H C Λ (thin f)) (thinClauses 𝓤)
     thin-walks C Λ fm known = walked 𝓤 H A own.ended stayed (thinClauses 𝓤) (WpFn 𝓤 H C Λ (thin f))
-        (λ κs.
-        (ptr-vals, (slice-vals, (uint-vals w64, (uint-vals w64, (uint-vals w64, (uint-vals w64, (uint-vals w64, (uint-vals w64, (bool-vals, tt))))))))))
+        (λ κs. (ptr-vals, (slice-vals, (LL.vals P.the-type P′.the-laws, (uint-vals w64, (bool-vals, tt))))))
         (λ κs. (
           mut-tells (named 0) (κs .0) T.the-row,
-          (
-            mut-slice-tells (named 1) (κs .1 .0) u8,
-            (uint-tells w64, (uint-tells w64, (uint-tells w64, (uint-tells w64, (uint-tells w64, (uint-tells w64, (bool-tells, tt))))))),
-          ),
+          (mut-slice-tells (named 1) (κs .1 .0) u8, (LL.tells P.the-type P′.the-laws, (uint-tells w64, (bool-tells, tt)))),
         ))
         (λ κs qs bounds a g are. needs 𝓤 (Asks (a .0 .now) (a .1 .0 .now) (a .1 .1)) _ (λ ok.
-        walk 𝓤 H A W (κs .0) (κs .1 .0) (qs .0) (qs .1 .0) (a .0 .ptr .0) (a .0 .ptr .1) (a .0 .name) (a .0 .now) (a .1 .0) (a .1 .1) ok (
-          are .1 .1 .0 .1,
-          (are .1 .1 .1 .0 .1, (are .1 .1 .1 .1 .0 .1, (are .1 .1 .1 .1 .1 .0 .1, (are .1 .1 .1 .1 .1 .1 .0 .1, are .1 .1 .1 .1 .1 .1 .1 .0 .1)))),
-        ) f C Λ fm known (are .1 .0 .0 .1)))
+        walk 𝓤 H A W (κs .0) (κs .1 .0) (qs .0) (qs .1 .0) (a .0 .ptr .0) (a .0 .ptr .1) (a .0 .name) (a .0 .now) (a .1 .0) (a .1 .1) ok
+        (are .1 .1 .0, are .1 .1 .1 .0 .1) f C Λ fm known (are .1 .0 .0 .1)))
 
     pub thin-meets : (𝓣 : Tables 𝓤 H) → Triple 𝓤 (𝓣 .C f) (Core 𝓤 H A) → Meets 𝓤 H A own.signature (WpFn 𝓤 H (𝓣 .C) (𝓣 .Λ) (thin f))
         (closing 𝓤 H A own.ended (thinClauses 𝓤))
@@ -293,20 +257,8 @@ module _ (Asks : Tally → List ℕ → Nums → Type 0) (Says : Tally → List 
           (
             goes-gave-slice 𝓤 H A W 2 1 tt (plain (λ _. u8)),
             (
-              goes-none 𝓤 H A W 2 (λ _. usize) yes (λ κs y g. refl),
-              (
-                goes-none 𝓤 H A W 2 (λ _. usize) yes (λ κs y g. refl),
-                (
-                  goes-none 𝓤 H A W 2 (λ _. usize) yes (λ κs y g. refl),
-                  (
-                    goes-none 𝓤 H A W 2 (λ _. usize) yes (λ κs y g. refl),
-                    (
-                      goes-none 𝓤 H A W 2 (λ _. usize) yes (λ κs y g. refl),
-                      (goes-none 𝓤 H A W 2 (λ _. usize) yes (λ κs y g. refl), (goes-none 𝓤 H A W 2 (λ _. bool) yes (λ κs y g. refl), tt)),
-                    ),
-                  ),
-                ),
-              ),
+              goes-none 𝓤 H A W 2 (λ _. P.the-row) yes (λ κs y g. refl),
+              (goes-none 𝓤 H A W 2 (λ _. usize) yes (λ κs y g. refl), (goes-none 𝓤 H A W 2 (λ _. bool) yes (λ κs y g. refl), tt)),
             ),
           ),
         )

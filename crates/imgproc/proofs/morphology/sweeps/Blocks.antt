@@ -78,7 +78,10 @@ module _ {R : ℕ → ℕ → Type 0} {op : ℕ → ℕ → ℕ} (o : Order R op
         let h = place k i pos in
         let same : (i + 1) / k ≡ i / k = quotient k (i / k) (i + 1) (omega arith) (omega arith) in
         let y : Extreme R (Between (i + 1) (min (k * (i / k) + k - 1) (n - 1))) f v = rw same at x in
-        join o y (single o f i i i refl refl) (λ j b. cases j i (λ e. inr (omega arith)) (λ g. inr (omega arith)) (λ g. inl (omega arith))) (λ j b. omega arith) (λ j b. omega arith)
+        join o y (single o f i i i refl refl)
+        (λ j b. cases j i (λ e. inr (omega arith)) (λ g. inr (omega arith)) (λ g. inl (omega arith)))
+        (λ j b. omega arith)
+        (λ j b. omega arith)
 
     -- ---- joining: where low and high lie in one block the whole block is seen, else low..high
     reaches : (b : Bool) (lo hi v w : ℕ) → lo ≤ hi → hi < n → hi < lo + k → eqb (lo / k) (hi / k) ≡ b → Backwards R k n f lo v → Forwards R k f hi w
@@ -101,7 +104,8 @@ module _ {R : ℕ → ℕ → Type 0} {op : ℕ → ℕ → ℕ} (o : Order R op
     unfolding reachFrom reachTo
     reached s p back forth i v l e =
         rw e
-        (reaches (oneBlock k n i) (low (radius k) i) (high (radius k) n i) (s (low (radius k) i)) (p (high (radius k) n i)) (omega arith) (omega arith) (omega arith) refl
+        (reaches (oneBlock k n i) (low (radius k) i) (high (radius k) n i) (s (low (radius k) i)) (p (high (radius k) n i))
+        (omega arith) (omega arith) (omega arith) refl
         (back (low (radius k) i) (omega arith)) (forth (high (radius k) n i) (omega arith)))
 
 -- an index that is no multiple of k has one before it

@@ -12,13 +12,39 @@ use Rattle.imgproc.specs.Extremes.{Order}
 use Rattle.imgproc.specs.Reach.{walk, forwardAt, backwardAt, joinAt, low, high, radius}
 use Rattle.imgproc.specs.Walks.{walk-le}
 use Rattle.imgproc.specs.declared.morphology.tally.Tally.{Tally}
+use Rattle.imgproc.specs.declared.morphology.sweeps.Planes.{Planes}
 use Rattle.imgproc.specs.Tallies.{Raised, HasRoom, raised-none, raised-twice, raised-as, room-left}
-use Rattle.imgproc.specs.Sweeps.{lane, Apart, Outside, Rowed, Forwards, Backwards, Joins, Passed, ForwardPassed, BackwardPassed, JoinPassed, LinesSwept}
-use Rattle.imgproc.proofs.morphology.sweeps.Blocks.{forward-first, forward-next, backward-first, backward-next, backward-none, after, reached, seen, order}
+use Rattle.imgproc.specs.Sweeps.{
+  lane,
+  Apart,
+  Outside,
+  Rowed,
+  Forwards,
+  Backwards,
+  Joins,
+  Passed,
+  ForwardPassed,
+  BackwardPassed,
+  JoinPassed,
+  area,
+  LinesSwept,
+}
+use Rattle.imgproc.proofs.morphology.sweeps.Blocks.{
+  forward-first,
+  forward-next,
+  backward-first,
+  backward-next,
+  backward-none,
+  after,
+  reached,
+  seen,
+  order,
+}
 use Rattle.imgproc.proofs.morphology.Lanes.{off, apart-within, outside-at, line-order, line-before, Downward, down-more, Upward, up-more}
 
--- a sample of a plane apart from the one that was written
-pub plane-kept : {w h to : ℕ} {d a : List ℕ} (from x y j : ℕ) → Apart from (w * h) to (w * h) → Outside to (w * h) d a → x < w → y < h → j ≡ from + (y * w + x) → getD a j 0 ≡ lane d from w x y
+-- a sample of a plane apart from the one that was written is as it was
+pub plane-kept : {w h to : ℕ} {d a : List ℕ} (from x y j : ℕ) → Apart from (w * h) to (w * h) → Outside to (w * h) d a → x < w → y < h
+    → j ≡ from + (y * w + x) → getD a j 0 ≡ lane d from w x y
 plane-kept {w} {h} {to} {d} {a} from x y j p o X Y e =
     let b = line-order w y h Y in
     outside-at j o (off j p (omega arith) (omega arith)) ∙ ap (λ (n : ℕ). getD d n 0) e
@@ -94,26 +120,35 @@ module _ (op : ℕ → ℕ → ℕ) (k suffix prefix to w h : ℕ)
       (raised-as e (omega arith))
 
 -- ---- the three passes: at each sample of each lane the extreme of its reach. The scratch at `spare` holds the forward extremes, then the backward ones
-pub lines-swept : {least : Bool} {k from to spare w h : ℕ} {t a b r : Tally} {d e f g : List ℕ} → 0 < k → Apart from (w * h) spare (2 * (w * h))
-    → ForwardPassed t d from spare k w h least a e → BackwardPassed a e from (spare + w * h) k w h least b f → JoinPassed b f (spare + w * h) spare to k w h least r g
-    → LinesSwept t d from to spare k w h least r g
-lines-swept {least} {k} {from} {to} {spare} {w} {h} {d = d} {f = f} {g = g} pos apart forth back joined = record {
+pub lines-swept : {least : Bool} {k : ℕ} {p : Planes} {t a b r : Tally} {d e f g : List ℕ} → 0 < k
+    → Apart (p .from) (area p) (p .spare) (2 * area p)
+    → ForwardPassed t d (p .from) (p .spare) k (p .width) (p .height) least a e
+    → BackwardPassed a e (p .from) (p .spare + area p) k (p .width) (p .height) least b f
+    → JoinPassed b f (p .spare + area p) (p .spare) (p .to) k (p .width) (p .height) least r g
+    → LinesSwept t d p k least r g
+lines-swept {least} {k} {p} {d = d} {f = f} {g = g} pos apart forth back joined = record {
   each = λ x y X Y.
-      reached (order least) k pos (lane d from w x) h (lane f (spare + w * h) w x) (lane f spare w x)
+      reached (order least) k pos (lane d (p .from) (p .width) x) (p .height) (lane f (p .spare + area p) (p .width) x) (lane f (p .spare) (p .width) x)
       (λ j l.
       seen
-      (λ i s. plane-kept from x i (from + (i * w + x)) (apart-within _ _ _ _ apart (omega arith) (omega arith) (omega arith) (omega arith)) (forth .rest) X (omega arith) refl)
+      (λ i s.
+      plane-kept (p .from) x i (p .from + (i * p .width + x))
+      (apart-within _ _ _ _ apart (omega arith) (omega arith) (omega arith) (omega arith))
+      (forth .rest)
+      X
+      (omega arith)
+      refl)
       (back .each x j X l))
-      (λ j l. rw (plane-kept spare x j (spare + (j * w + x)) (record { clear = inl (omega arith) }) (back .rest) X l refl) (forth .each x j X l))
+      (λ j l. rw (plane-kept (p .spare) x j (p .spare + (j * p .width + x)) (record { clear = inl (omega arith) }) (back .rest) X l refl) (forth .each x j X l))
       y
-      (lane g to w x y)
+      (lane g (p .to) (p .width) x y)
       Y
       (joined .each x y X Y);
   counted = raised-twice (raised-twice (forth .counted) (back .counted) refl) (joined .counted) (omega arith);
   kept = record {
     long = joined .rest .long ∙ back .rest .long ∙ forth .rest .long;
-    same = λ j p q.
-        outside-at j (joined .rest) p
+    same = λ j u q.
+        outside-at j (joined .rest) u
         ∙ outside-at j (back .rest) (record { off = ⊎-elim (λ s. inl (omega arith)) (λ s. inr (omega arith)) (q .off) })
         ∙ outside-at j (forth .rest) (record { off = ⊎-elim (λ s. inl (omega arith)) (λ s. inr (omega arith)) (q .off) });
   };

@@ -48,11 +48,14 @@ use denote.Exit.{yes}
 use Rattle.imgproc.specs.declared.morphology.tally.Tally.{Tally}
 use Rattle.imgproc.proofs.morphology.tally.Tally as T
 use Rattle.imgproc.proofs.morphology.tally.Tally.Laws as T′
+use Rattle.imgproc.proofs.morphology.sweeps.Planes as P
+use Rattle.imgproc.proofs.morphology.sweeps.Planes.Laws as P′
+use Rattle.imgproc.proofs.morphology.rect.Thin.{planesVal}
 use Rattle.imgproc.proofs.morphology.rect.SliceAgain.{LentAgain, lends-again-at, comes-back-at}
 use Rattle.imgproc.proofs.morphology.rect.LocalTally.{val, cell, Fits, Ref, Held, local-lends, local-back}
 use Rattle.imgproc.proofs.morphology.rect.Called.{Sweep, to, goes, After, gives}
 use Rattle.imgproc.proofs.morphology.rect.Says.{Asks, RowsSay, ColumnsSay}
-use Rattle.imgproc.proofs.morphology.rect.MorphNumbers.{Own, OwnFit, num-1, num-2, fit-1, fit-2, Asked, Done}
+use Rattle.imgproc.proofs.morphology.rect.MorphNumbers.{Own, OwnFit, num-1, num-2, fit-1, fit-2, in-place, in-place-fit, Asked, Done}
 use Rattle.imgproc.proofs.morphology.rect.MorphFacts.{asks-1, asks-2, at-exit}
 use Rattle.imgproc.proofs.morphology.rect.sweep_rows as call-1
 use Rattle.imgproc.proofs.morphology.rect.sweep_rows.Symbol as call-1-def
@@ -72,57 +75,26 @@ stayed = (
   stay-none (λ _. T.the-row) yes,
   (
     gave-slice (0 ∷ []) tt (plain (λ _. u8)),
-    (
-      stay-none (λ _. usize) yes,
-      (
-        stay-none (λ _. usize) yes,
-        (
-          stay-none (λ _. usize) yes,
-          (
-            stay-none (λ _. usize) yes,
-            (stay-none (λ _. usize) yes, (stay-none (λ _. usize) yes, (stay-none (λ _. usize) yes, (stay-none (λ _. bool) yes, tt)))),
-          ),
-        ),
-      ),
-    ),
+    (stay-none (λ _. P.the-row) yes, (stay-none (λ _. usize) yes, (stay-none (λ _. usize) yes, (stay-none (λ _. bool) yes, tt)))),
   ),
 )
 
 -- its numbers' machine values, and what they own, had for nothing
 abbrev OwnVals : Type 0
-OwnVals = List Val × (List Val × (List Val × (List Val × (List Val × (List Val × (List Val × (List Val × Unit {0})))))))
+OwnVals = List Val × (List Val × (List Val × (List Val × Unit {0})))
 
 abbrev ownVals : Own → OwnVals
-ownVals x = (
-  vint w64 (x .0) ∷ [],
-  (
-    vint w64 (x .1 .0) ∷ [],
-    (
-      vint w64 (x .1 .1 .0) ∷ [],
-      (
-        vint w64 (x .1 .1 .1 .0) ∷ [],
-        (
-          vint w64 (x .1 .1 .1 .1 .0) ∷ [],
-          (vint w64 (x .1 .1 .1 .1 .1 .0) ∷ [], (vint w64 (x .1 .1 .1 .1 .1 .1 .0) ∷ [], (vbool (x .1 .1 .1 .1 .1 .1 .1 .0) ∷ [], tt))),
-        ),
-      ),
-    ),
-  ),
-)
+ownVals x = (planesVal (x .0) ∷ [], (vint w64 (x .1 .0) ∷ [], (vint w64 (x .1 .1 .0) ∷ [], (vbool (x .1 .1 .1 .0) ∷ [], tt))))
 
 abbrev ownOwn : Own → Fml
-ownOwn x = owns (usize ∷ usize ∷ usize ∷ usize ∷ usize ∷ usize ∷ usize ∷ bool ∷ []) x (ownVals x)
+ownOwn x = owns (P.the-row ∷ usize ∷ usize ∷ bool ∷ []) x (ownVals x)
 
 has-own : {M : Type 1} (𝓤 : URA M) (H : Heap 𝓤) (A : Atoms 𝓤) (W : Given 𝓤 H A) (x : Own) → OwnFit x → ent 𝓤 (emp 𝓤) (sem 𝓤 H A (ownOwn x))
 has-own 𝓤 H A W x f =
-    qed W [] ∵ nothing ! $ owned ! bool (Is bool) (bool-makes 𝓤 H A W) (x .1 .1 .1 .1 .1 .1 .1 .0) _ refl $ fjoin ! $
-    owned ! usize (Is usize) (uint-makes 𝓤 H A W w64) (x .1 .1 .1 .1 .1 .1 .0) _ (refl, f .1 .1 .1 .1 .1 .1) $ fjoin ! $
-    owned ! usize (Is usize) (uint-makes 𝓤 H A W w64) (x .1 .1 .1 .1 .1 .0) _ (refl, f .1 .1 .1 .1 .1 .0) $ fjoin ! $
-    owned ! usize (Is usize) (uint-makes 𝓤 H A W w64) (x .1 .1 .1 .1 .0) _ (refl, f .1 .1 .1 .1 .0) $ fjoin ! $
-    owned ! usize (Is usize) (uint-makes 𝓤 H A W w64) (x .1 .1 .1 .0) _ (refl, f .1 .1 .1 .0) $ fjoin ! $
-    owned ! usize (Is usize) (uint-makes 𝓤 H A W w64) (x .1 .1 .0) _ (refl, f .1 .1 .0) $ fjoin ! $
+    qed W [] ∵ nothing ! $ owned ! bool (Is bool) (bool-makes 𝓤 H A W) (x .1 .1 .1 .0) _ refl $ fjoin ! $
+    owned ! usize (Is usize) (uint-makes 𝓤 H A W w64) (x .1 .1 .0) _ (refl, f .1 .1) $ fjoin ! $
     owned ! usize (Is usize) (uint-makes 𝓤 H A W w64) (x .1 .0) _ (refl, f .1 .0) $ fjoin ! $
-    owned ! usize (Is usize) (uint-makes 𝓤 H A W w64) (x .0) _ (refl, f .0) $ fjoin ! $ done !
+    owned ! P.the-row (Is P.the-row) ((LL.makes P.the-type P′.the-plain) 𝓤 H A) (x .0) _ (f .0) $ fjoin ! $ done !
 
 -- the machine value that a call of a sweep leaves has its local's type
 unit-typed : (w : Val) → w ≡ vunit → Holds (hasTy tyUnit w) × WT w
@@ -144,8 +116,7 @@ module _ {M : Type 1} (𝓤 : URA M) (H : Heap 𝓤) (A : Atoms 𝓤) (W : Given
   bound = (((κ, tt), (q, tt), tt, a, (val h₀ ∷ [], (v ∷ [], ownVals x))), tt)
 
   abbrev passed : List Val
-  passed = val h₀ ∷ v ∷ vint w64 (x .0) ∷ vint w64 (x .1 .0) ∷ vint w64 (x .1 .1 .0) ∷ vint w64 (x .1 .1 .1 .0) ∷ vint w64 (x .1 .1 .1 .1 .0) ∷
-      vint w64 (x .1 .1 .1 .1 .1 .0) ∷ vint w64 (x .1 .1 .1 .1 .1 .1 .0) ∷ vbool (x .1 .1 .1 .1 .1 .1 .1 .0) ∷ []
+  passed = val h₀ ∷ v ∷ planesVal (x .0) ∷ vint w64 (x .1 .0) ∷ vint w64 (x .1 .1 .0) ∷ vbool (x .1 .1 .1 .0) ∷ []
 
   abbrev Post : Val → SProp 𝓤
   Post = walkOf 𝓤 H A own.ended stayed (own.clauses 𝓤 H A at-mem run) .post bound
@@ -157,8 +128,8 @@ module _ {M : Type 1} (𝓤 : URA M) (H : Heap 𝓤) (A : Atoms 𝓤) (W : Given
   exits : (r : Tally) (zs : List ℕ) → Done h₀ l x r zs → Fits r → length zs ≡ length l → ent 𝓤 (⋆ 𝓤 H A (Left zs)) (Post (val r))
   exits r zs e is long =
       qed W (Left zs) ∵
-      suffices ! _ (ends-at 𝓤 H A own.ended stayed (own.clauses 𝓤 H A at-mem run) W bound (val r) r
-      (tt, (zs, (tt, (tt, (tt, (tt, (tt, (tt, (tt, (tt, tt)))))))))) (tt, (long, (tt, (tt, (tt, (tt, (tt, (tt, (tt, (tt, tt))))))))))) $ says ! e $
+      suffices ! _ (ends-at 𝓤 H A own.ended stayed (own.clauses 𝓤 H A at-mem run) W bound (val r) r (tt, (zs, (tt, (tt, (tt, (tt, tt))))))
+      (tt, (long, (tt, (tt, (tt, (tt, tt))))))) $ says ! e $
       nothing ! $ move ! (1 ∷ 0 ∷ []) $ join ! $ frame ! $
       use0 W (‵ (ownOwn x)) (has-own 𝓤 H A W x fit) $ move ! (1 ∷ 0 ∷ []) $ fjoin ! $
       owned ! T.the-row (Is T.the-row) ((LL.makes T.the-type T′.the-plain) 𝓤 H A) h₀ _ fits₀ $ fjoin ! $ frame ! $
@@ -169,126 +140,106 @@ module _ {M : Type 1} (𝓤 : URA M) (H : Heap 𝓤) (A : Atoms 𝓤) (W : Given
     walk : Room u8 (length l) → ent 𝓤 (onEntry 𝓤 H A own.signature (κ, tt) (q, tt) a (val h₀ ∷ [], (v ∷ [], ownVals x)))
         (WpFn 𝓤 H C Λ code.function passed Post)
     walk room =
-        qed W ((‵ (flft κ q) ⊛ ‵ ftrue) ∷ ‵ (owns (T.the-row ∷ MutSlice (named 0) κ u8 ∷ usize ∷ usize ∷ usize ∷ usize ∷ usize ∷ usize ∷ usize ∷ bool ∷ [])
-        a (val h₀ ∷ [], (v ∷ [], ownVals x))) ∷ []) ∵
+        qed W ((‵ (flft κ q) ⊛ ‵ ftrue) ∷ ‵ (owns (T.the-row ∷ MutSlice (named 0) κ u8 ∷ P.the-row ∷ usize ∷ usize ∷ bool ∷ []) a
+        (val h₀ ∷ [], (v ∷ [], ownVals x))) ∷ []) ∵
         split ! $ move ! (1 ∷ []) $ drop ! $
         move ! (1 ∷ []) $ fsplit ! $ drop ! $ fsplit ! $ move ! (1 ∷ []) $ drop ! $
         enter ! C Λ code.function passed _ $
         alloc1 ! (λ l₀. alloc1 ! (λ l₁. alloc1 ! (λ l₂. alloc1 ! (λ l₃. alloc1 ! (λ l₄. alloc1 ! (λ l₅. alloc1 ! (λ l₆. alloc1 ! (λ l₇. alloc1 ! (λ l₈.
-        alloc1 ! (λ l₉. alloc1 ! (λ l₁₀. alloc1 ! (λ l₁₁. alloc1 ! (λ l₁₂. alloc1 ! (λ l₁₃. alloc1 ! (λ l₁₄. alloc1 ! (λ l₁₅. alloc1 ! (λ l₁₆.
-        alloc1 ! (λ l₁₇. alloc1 ! (λ l₁₈. alloc0 ! $ params1 ! $
-        pass1 ! (init ! 34 refl (LL.lawful T.the-type T′.the-laws 𝓤 H A W .typed h₀ _ fits₀ .0)) $
-        pass1 ! (init ! 32 refl (tt, (tt, (record { fits = room .0 }, tt)))) $ pass1 ! (init ! 30 refl (tt, record { fits = fit .0 })) $
-        pass1 ! (init ! 28 refl (tt, record { fits = fit .1 .0 })) $ pass1 ! (init ! 26 refl (tt, record { fits = fit .1 .1 .0 })) $
-        pass1 ! (init ! 24 refl (tt, record { fits = fit .1 .1 .1 .0 })) $ pass1 ! (init ! 22 refl (tt, record { fits = fit .1 .1 .1 .1 .0 })) $
-        pass1 ! (init ! 20 refl (tt, record { fits = fit .1 .1 .1 .1 .1 .0 })) $ pass1 ! (init ! 18 refl (tt, record { fits = fit .1 .1 .1 .1 .1 .1 })) $
-        pass1 ! (init ! 16 refl (tt, tt)) $ pass0 ! $
-        assigns ! (of-opd ! (load ! (from ! (stop !)) (look ! 34 refl))) (from ! (stop !))
-        (init ! 14 refl (LL.lawful T.the-type T′.the-laws 𝓤 H A W .typed h₀ _ fits₀ .0)) $
+        alloc1 ! (λ l₉. alloc1 ! (λ l₁₀. alloc1 ! (λ l₁₁. alloc1 ! (λ l₁₂. alloc1 ! (λ l₁₃. alloc1 ! (λ l₁₄. alloc1 ! (λ l₁₅. alloc0 ! $ params1 ! $
+        pass1 ! (init ! 28 refl (LL.lawful T.the-type T′.the-laws 𝓤 H A W .typed h₀ _ fits₀ .0)) $
+        pass1 ! (init ! 26 refl (tt, (tt, (record { fits = room .0 }, tt)))) $ pass1 ! (init ! 24 refl
+        (LL.lawful P.the-type P′.the-laws 𝓤 H A W .typed (x .0) _ (fit .0) .0)) $ pass1 ! (init ! 22 refl (tt, record { fits = fit .1 .0 })) $
+        pass1 ! (init ! 20 refl (tt, record { fits = fit .1 .1 })) $ pass1 ! (init ! 18 refl (tt, tt)) $ pass0 ! $
+        assigns ! (of-opd ! (load ! (from ! (stop !)) (look ! 28 refl))) (from ! (stop !))
+        (init ! 16 refl (LL.lawful T.the-type T′.the-laws 𝓤 H A W .typed h₀ _ fits₀ .0)) $
+        assigns ! (agg ! (and-then ! (load ! (from ! (fld ! refl (stop !))) (look-in ! 24 (sub ! 1 refl (whole !))))
+        (and-then ! (load ! (from ! (fld ! refl (stop !))) (look-in ! 24 (sub ! 1 refl (whole !))))
+        (and-then ! (load ! (from ! (fld ! refl (stop !))) (look-in ! 24 (sub ! 2 refl (whole !))))
+        (and-then ! (load ! (from ! (fld ! refl (stop !))) (look-in ! 24 (sub ! 3 refl (whole !))))
+        (and-then ! (load ! (from ! (fld ! refl (stop !))) (look-in ! 24 (sub ! 4 refl (whole !)))) (no-more !))))))) (from ! (stop !))
+        (init ! 14 refl (LL.lawful P.the-type P′.the-laws 𝓤 H A W .typed (in-place x) _ (in-place-fit x fit) .0)) $
         -- the call of `sweep_rows`
         assigns ! (addr ! (from ! (stop !))) (from ! (stop !)) (init ! 10 refl (tt, tt)) $
-        assigns ! (addr ! (from ! (fld ! refl (hop ! (look-in ! 32 (sub ! 0 refl (whole !))) (stop !))))) (from ! (stop !)) (init ! 8 refl (tt, tt)) $
+        assigns ! (addr ! (from ! (fld ! refl (hop ! (look-in ! 26 (sub ! 0 refl (whole !))) (stop !))))) (from ! (stop !)) (init ! 8 refl (tt, tt)) $
         assigns ! (agg ! (and-then ! (load ! (from ! (stop !)) (look ! 8 refl)) (and-then ! (load ! (from ! (fld ! refl (stop !)))
-        (look-in ! 32 (sub ! 1 refl (whole !)))) (no-more !)))) (from ! (stop !)) (init ! 6 refl (tt, (tt, (record { fits = room .0 }, tt)))) $
+        (look-in ! 26 (sub ! 1 refl (whole !)))) (no-more !)))) (from ! (stop !)) (init ! 6 refl (tt, (tt, (record { fits = room .0 }, tt)))) $
         lft-new ! tt (λ ν1. lft-new ! tt (λ μ1.
-        move ! (40 ∷ 41 ∷ []) $ use2 W (later (some (λ (δ1 : GName). ‵ (MutSlice (named 1) (μ1 ∷ []) u8 .own (lent δ1 l) (v ∷ [])) ⊛
+        move ! (34 ∷ 35 ∷ []) $ use2 W (later (some (λ (δ1 : GName). ‵ (MutSlice (named 1) (μ1 ∷ []) u8 .own (lent δ1 l) (v ∷ [])) ⊛
         ‵ (LentAgain u8 κ (μ1 ∷ []) q γ b o δ1 l)))) (lends-again-at u8 κ (μ1 ∷ []) q γ b o 𝓤 H A W (named 0) (named 1) l (length l) refl) $ await ! tt $
         pick ! (λ δ1. split ! $
-        move ! (18 ∷ []) $ use1 W (later (some (λ (γ1 : GName). ‵ (Ref 𝓤 H A W (ν1 ∷ []) l₁₁ (named 0) γ1 h₀) ⊛ ‵ (Held 𝓤 H A W (ν1 ∷ []) l₁₁ γ1))))
-        (local-lends 𝓤 H A W (ν1 ∷ []) l₁₁ (named 0) h₀ fits₀) $ await ! tt $ pick ! (λ γ1. split ! $
-        -- [0: t; 1: held; 2: lent; 3: kept; 4: μ1; 5: ν1; 6: _18; 8: _17; 10: _16; 12: _15; 14: _14; 16: _13; 18: _12; 21: _10; 23: _9; 25: _8; 27: _7;
-        --   29: _6; 31: _5; 33: _4; 35: _3; 37: _2; 39: _1; 41: _0]
+        move ! (20 ∷ []) $ use1 W (later (some (λ (γ1 : GName). ‵ (Ref 𝓤 H A W (ν1 ∷ []) l₇ (named 0) γ1 h₀) ⊛ ‵ (Held 𝓤 H A W (ν1 ∷ []) l₇ γ1))))
+        (local-lends 𝓤 H A W (ν1 ∷ []) l₇ (named 0) h₀ fits₀) $ await ! tt $ pick ! (λ γ1. split ! $
+        -- [0: t; 1: held; 2: lent; 3: kept; 4: μ1; 5: ν1; 6: _15; 8: _14; 10: _13; 12: _12; 14: _11; 16: _10; 18: _9; 20: _8; 23: _6; 25: _5; 27: _4;
+        --   29: _3; 31: _2; 33: _1; 35: _0]
         move ! (5 ∷ 4 ∷ 0 ∷ 2 ∷ []) $ group ! 4 $ use1 W (raw (Sweep Asks RowsSay 𝓤 H A .pre
-        (to Asks RowsSay 𝓤 H A W (num-1 x) (ν1 ∷ []) (μ1 ∷ []) fullShare l₁₁ γ1 h₀ (lent δ1 l) v)))
-        (goes Asks RowsSay 𝓤 H A W (num-1 x) (ν1 ∷ []) (μ1 ∷ []) fullShare l₁₁ γ1 h₀ (lent δ1 l) v (fit-1 x fit) (asks-1 h₀ l x ok room)) $
-        calls-at ! fm (Sweep Asks RowsSay 𝓤 H A) known-1 (to Asks RowsSay 𝓤 H A W (num-1 x) (ν1 ∷ []) (μ1 ∷ []) fullShare l₁₁ γ1 h₀ (lent δ1 l) v)
+        (to Asks RowsSay 𝓤 H A W (num-1 x) (ν1 ∷ []) (μ1 ∷ []) fullShare l₇ γ1 h₀ (lent δ1 l) v)))
+        (goes Asks RowsSay 𝓤 H A W (num-1 x) (ν1 ∷ []) (μ1 ∷ []) fullShare l₇ γ1 h₀ (lent δ1 l) v (fit-1 x fit) (asks-1 h₀ l x ok room)) $
+        calls-at ! fm (Sweep Asks RowsSay 𝓤 H A) known-1 (to Asks RowsSay 𝓤 H A W (num-1 x) (ν1 ∷ []) (μ1 ∷ []) fullShare l₇ γ1 h₀ (lent δ1 l) v)
         (and-then ! (load ! (from ! (stop !)) (look ! 13 refl)) (and-then ! (load ! (from ! (stop !)) (look ! 9 refl))
-        (and-then ! (load ! (from ! (stop !)) (look ! 32 refl)) (and-then ! (load ! (from ! (stop !)) (look ! 30 refl))
-        (and-then ! (load ! (from ! (stop !)) (look ! 28 refl)) (and-then ! (load ! (from ! (stop !)) (look ! 26 refl))
-        (and-then ! (load ! (from ! (stop !)) (look ! 22 refl)) (and-then ! (load ! (from ! (stop !)) (look ! 20 refl))
-        (and-then ! (load ! (from ! (stop !)) (look ! 18 refl)) (no-more !)))))))))) (λ w1.
-        use1 W (later (After Asks RowsSay 𝓤 H A W (num-1 x) (ν1 ∷ []) (μ1 ∷ []) fullShare l₁₁ γ1 h₀ (lent δ1 l) v w1))
-        (gives Asks RowsSay 𝓤 H A W (num-1 x) (ν1 ∷ []) (μ1 ∷ []) fullShare l₁₁ γ1 h₀ (lent δ1 l) v w1) $ await ! tt $
+        (and-then ! (load ! (from ! (stop !)) (look ! 26 refl)) (and-then ! (load ! (from ! (stop !)) (look ! 24 refl))
+        (and-then ! (load ! (from ! (stop !)) (look ! 20 refl)) (no-more !)))))) (λ w1.
+        use1 W (later (After Asks RowsSay 𝓤 H A W (num-1 x) (ν1 ∷ []) (μ1 ∷ []) fullShare l₇ γ1 h₀ (lent δ1 l) v w1))
+        (gives Asks RowsSay 𝓤 H A W (num-1 x) (ν1 ∷ []) (μ1 ∷ []) fullShare l₇ γ1 h₀ (lent δ1 l) v w1) $ await ! tt $
         pick ! (λ r1. pick ! (λ zs1. learn ! (λ e1. split ! $
         land ! (from ! (stop !)) (init ! 16 refl (unit-typed w1 (e1 .0))) $ split ! $ move ! (1 ∷ []) $ split ! $ move ! (1 ∷ []) $ drop ! $
         move ! (2 ∷ []) $ split ! $
         -- the tally is back, and then the slice
-        move ! (3 ∷ []) $ lft-end ! tt $ move ! (0 ∷ 4 ∷ 1 ∷ []) $ use3 W (later (given (Fits r1) (‵ (cell l₁₁ r1))))
-        (local-back 𝓤 H A W (ν1 ∷ []) l₁₁ γ1 r1) $ await ! tt $ learn ! (λ fits1.
+        move ! (3 ∷ []) $ lft-end ! tt $ move ! (0 ∷ 4 ∷ 1 ∷ []) $ use3 W (later (given (Fits r1) (‵ (cell l₇ r1))))
+        (local-back 𝓤 H A W (ν1 ∷ []) l₇ γ1 r1) $ await ! tt $ learn ! (λ fits1.
         move ! (2 ∷ []) $ lft-end ! tt $ move ! (0 ∷ 3 ∷ 2 ∷ []) $ use3 W (later (‵ (MutSlice (named 0) κ u8 .own (lent γ zs1) (v ∷ [])) ⊛ ‵ (flft κ q)))
         (comes-back-at u8 κ (μ1 ∷ []) q γ b o 𝓤 H A W (named 0) (named 1) l (length l) refl δ1 zs1 room (e1 .1 .1)) $ await ! tt $ split ! $
         -- the call of `sweep_columns`
         assigns ! (addr ! (from ! (stop !))) (from ! (stop !)) (init ! 7 refl (tt, tt)) $
-        assigns ! (addr ! (from ! (fld ! refl (hop ! (look-in ! 34 (sub ! 0 refl (whole !))) (stop !))))) (from ! (stop !)) (init ! 5 refl (tt, tt)) $
+        assigns ! (addr ! (from ! (fld ! refl (hop ! (look-in ! 28 (sub ! 0 refl (whole !))) (stop !))))) (from ! (stop !)) (init ! 5 refl (tt, tt)) $
         assigns ! (agg ! (and-then ! (load ! (from ! (stop !)) (look ! 5 refl)) (and-then ! (load ! (from ! (fld ! refl (stop !)))
-        (look-in ! 34 (sub ! 1 refl (whole !)))) (no-more !)))) (from ! (stop !)) (init ! 3 refl (tt, (tt, (record { fits = room .0 }, tt)))) $
+        (look-in ! 28 (sub ! 1 refl (whole !)))) (no-more !)))) (from ! (stop !)) (init ! 3 refl (tt, (tt, (record { fits = room .0 }, tt)))) $
         lft-new ! tt (λ ν2.
-        move ! (3 ∷ []) $ use1 W (later (some (λ (γ2 : GName). ‵ (Ref 𝓤 H A W (ν2 ∷ []) l₁₁ (named 0) γ2 r1) ⊛ ‵ (Held 𝓤 H A W (ν2 ∷ []) l₁₁ γ2))))
-        (local-lends 𝓤 H A W (ν2 ∷ []) l₁₁ (named 0) r1 fits1) $ await ! tt $ pick ! (λ γ2. split ! $
-        -- [0: t; 1: held; 2: ν2; 3: ws; 4: tok; 5: _18; 7: _17; 9: _16; 11: _15; 13: _14; 15: _13; 17: _12; 20: _10; 22: _9; 24: _8; 26: _7; 28: _6;
-        --   30: _5; 32: _4; 34: _3; 36: _2; 38: _1; 40: _0]
+        move ! (3 ∷ []) $ use1 W (later (some (λ (γ2 : GName). ‵ (Ref 𝓤 H A W (ν2 ∷ []) l₇ (named 0) γ2 r1) ⊛ ‵ (Held 𝓤 H A W (ν2 ∷ []) l₇ γ2))))
+        (local-lends 𝓤 H A W (ν2 ∷ []) l₇ (named 0) r1 fits1) $ await ! tt $ pick ! (λ γ2. split ! $
+        -- [0: t; 1: held; 2: ν2; 3: ws; 4: tok; 5: _15; 7: _14; 9: _13; 11: _12; 13: _11; 15: _10; 17: _9; 19: _8; 22: _6; 24: _5; 26: _4; 28: _3; 30: _2;
+        --   32: _1; 34: _0]
         move ! (2 ∷ 4 ∷ 0 ∷ 3 ∷ []) $ group ! 4 $ use1 W (raw (Sweep Asks ColumnsSay 𝓤 H A .pre
-        (to Asks ColumnsSay 𝓤 H A W (num-2 x) (ν2 ∷ []) κ q l₁₁ γ2 r1 (lent γ zs1) v)))
-        (goes Asks ColumnsSay 𝓤 H A W (num-2 x) (ν2 ∷ []) κ q l₁₁ γ2 r1 (lent γ zs1) v (fit-2 x fit) (asks-2 h₀ l x ok room r1 zs1 (e1 .1 .0) (e1 .1 .1))) $
-        calls-at ! fm (Sweep Asks ColumnsSay 𝓤 H A) known-2 (to Asks ColumnsSay 𝓤 H A W (num-2 x) (ν2 ∷ []) κ q l₁₁ γ2 r1 (lent γ zs1) v)
+        (to Asks ColumnsSay 𝓤 H A W (num-2 x) (ν2 ∷ []) κ q l₇ γ2 r1 (lent γ zs1) v)))
+        (goes Asks ColumnsSay 𝓤 H A W (num-2 x) (ν2 ∷ []) κ q l₇ γ2 r1 (lent γ zs1) v (fit-2 x fit) (asks-2 h₀ l x ok room r1 zs1 (e1 .1 .0) (e1 .1 .1))) $
+        calls-at ! fm (Sweep Asks ColumnsSay 𝓤 H A) known-2 (to Asks ColumnsSay 𝓤 H A W (num-2 x) (ν2 ∷ []) κ q l₇ γ2 r1 (lent γ zs1) v)
         (and-then ! (load ! (from ! (stop !)) (look ! 6 refl)) (and-then ! (load ! (from ! (stop !)) (look ! 2 refl))
-        (and-then ! (load ! (from ! (stop !)) (look ! 29 refl)) (and-then ! (load ! (from ! (stop !)) (look ! 29 refl))
-        (and-then ! (load ! (from ! (stop !)) (look ! 27 refl)) (and-then ! (load ! (from ! (stop !)) (look ! 23 refl))
-        (and-then ! (load ! (from ! (stop !)) (look ! 21 refl)) (and-then ! (load ! (from ! (stop !)) (look ! 19 refl))
-        (and-then ! (load ! (from ! (stop !)) (look ! 17 refl)) (no-more !)))))))))) (λ w2.
-        use1 W (later (After Asks ColumnsSay 𝓤 H A W (num-2 x) (ν2 ∷ []) κ q l₁₁ γ2 r1 (lent γ zs1) v w2))
-        (gives Asks ColumnsSay 𝓤 H A W (num-2 x) (ν2 ∷ []) κ q l₁₁ γ2 r1 (lent γ zs1) v w2) $ await ! tt $
+        (and-then ! (load ! (from ! (stop !)) (look ! 16 refl)) (and-then ! (load ! (from ! (stop !)) (look ! 21 refl))
+        (and-then ! (load ! (from ! (stop !)) (look ! 19 refl)) (no-more !)))))) (λ w2.
+        use1 W (later (After Asks ColumnsSay 𝓤 H A W (num-2 x) (ν2 ∷ []) κ q l₇ γ2 r1 (lent γ zs1) v w2))
+        (gives Asks ColumnsSay 𝓤 H A W (num-2 x) (ν2 ∷ []) κ q l₇ γ2 r1 (lent γ zs1) v w2) $ await ! tt $
         pick ! (λ r2. pick ! (λ zs2. learn ! (λ e2. split ! $
         land ! (from ! (stop !)) (store ! 15 refl (unit-typed w2 (e2 .0))) $ split ! $ move ! (1 ∷ []) $ split ! $ move ! (1 ∷ []) $ drop ! $
         move ! (2 ∷ []) $ split ! $
         -- the tally is back, and then the slice
-        move ! (3 ∷ []) $ lft-end ! tt $ move ! (0 ∷ 4 ∷ 1 ∷ []) $ use3 W (later (given (Fits r2) (‵ (cell l₁₁ r2))))
-        (local-back 𝓤 H A W (ν2 ∷ []) l₁₁ γ2 r2) $ await ! tt $ learn ! (λ fits2.
-        -- [0: _11; 1: fin; 2: tok; 3: _18; 5: _17; 7: _16; 9: _15; 11: _14; 13: _13; 15: _12; 18: _10; 20: _9; 22: _8; 24: _7; 26: _6; 28: _5; 30: _4;
-        --   32: _3; 34: _2; 36: _1; 38: _0]
+        move ! (3 ∷ []) $ lft-end ! tt $ move ! (0 ∷ 4 ∷ 1 ∷ []) $ use3 W (later (given (Fits r2) (‵ (cell l₇ r2))))
+        (local-back 𝓤 H A W (ν2 ∷ []) l₇ γ2 r2) $ await ! tt $ learn ! (λ fits2.
+        -- [0: _7; 1: fin; 2: tok; 3: _15; 5: _14; 7: _13; 9: _12; 11: _11; 13: _10; 15: _9; 17: _8; 20: _6; 22: _5; 24: _4; 26: _3; 28: _2; 30: _1; 32: _0]
         assigns ! (of-opd ! (load ! (from ! (stop !)) (look ! 0 refl))) (from ! (stop !))
-        (init ! 38 refl (LL.lawful T.the-type T′.the-laws 𝓤 H A W .typed r2 _ fits2 .0)) $
-        returns ! (look ! 38 refl) $
-        forget ! 3 refl $ forget ! 5 refl $ forget ! 7 refl $ forget ! 9 refl $ forget ! 11 refl $ forget ! 13 refl $ forget ! 15 refl $ forget ! 0 refl $
-        forget ! 18 refl $ forget ! 20 refl $ forget ! 22 refl $ forget ! 24 refl $ forget ! 26 refl $ forget ! 28 refl $ forget ! 30 refl $
-        forget ! 32 refl $ forget ! 34 refl $ forget ! 36 refl $ forget ! 38 refl $
-        move ! (38 ∷ 39 ∷ []) $ free1 ! $ move ! (36 ∷ 37 ∷ []) $ free1 ! $ move ! (34 ∷ 35 ∷ []) $ free1 ! $ move ! (32 ∷ 33 ∷ []) $ free1 ! $
-        move ! (30 ∷ 31 ∷ []) $ free1 ! $ move ! (28 ∷ 29 ∷ []) $ free1 ! $ move ! (26 ∷ 27 ∷ []) $ free1 ! $ move ! (24 ∷ 25 ∷ []) $ free1 ! $
-        move ! (22 ∷ 23 ∷ []) $ free1 ! $ move ! (20 ∷ 21 ∷ []) $ free1 ! $ move ! (18 ∷ 19 ∷ []) $ free1 ! $ move ! (0 ∷ 17 ∷ []) $ free1 ! $
-        move ! (14 ∷ 15 ∷ []) $ free1 ! $ move ! (12 ∷ 13 ∷ []) $ free1 ! $ move ! (10 ∷ 11 ∷ []) $ free1 ! $ move ! (8 ∷ 9 ∷ []) $ free1 ! $
-        move ! (6 ∷ 7 ∷ []) $ free1 ! $ move ! (4 ∷ 5 ∷ []) $ free1 ! $ move ! (2 ∷ 3 ∷ []) $ free1 ! $ free0 ! $
+        (init ! 32 refl (LL.lawful T.the-type T′.the-laws 𝓤 H A W .typed r2 _ fits2 .0)) $
+        returns ! (look ! 32 refl) $
+        forget ! 3 refl $ forget ! 5 refl $ forget ! 7 refl $ forget ! 9 refl $ forget ! 11 refl $ forget ! 13 refl $ forget ! 15 refl $ forget ! 17 refl $
+        forget ! 0 refl $ forget ! 20 refl $ forget ! 22 refl $ forget ! 24 refl $ forget ! 26 refl $ forget ! 28 refl $ forget ! 30 refl $
+        forget ! 32 refl $
+        move ! (32 ∷ 33 ∷ []) $ free1 ! $ move ! (30 ∷ 31 ∷ []) $ free1 ! $ move ! (28 ∷ 29 ∷ []) $ free1 ! $ move ! (26 ∷ 27 ∷ []) $ free1 ! $
+        move ! (24 ∷ 25 ∷ []) $ free1 ! $ move ! (22 ∷ 23 ∷ []) $ free1 ! $ move ! (20 ∷ 21 ∷ []) $ free1 ! $ move ! (0 ∷ 19 ∷ []) $ free1 ! $
+        move ! (16 ∷ 17 ∷ []) $ free1 ! $ move ! (14 ∷ 15 ∷ []) $ free1 ! $ move ! (12 ∷ 13 ∷ []) $ free1 ! $ move ! (10 ∷ 11 ∷ []) $ free1 ! $
+        move ! (8 ∷ 9 ∷ []) $ free1 ! $ move ! (6 ∷ 7 ∷ []) $ free1 ! $ move ! (4 ∷ 5 ∷ []) $ free1 ! $ move ! (2 ∷ 3 ∷ []) $ free1 ! $ free0 ! $
         keep ! (1 ∷ 0 ∷ []) $ by ! (exits r2 zs2 (at-exit h₀ l x ok room r1 zs1 (e1 .1 .0) (e1 .1 .1) r2 zs2 (e2 .1 .0) (e2 .1 .1)) fits2
-        ((e2 .1 .1) ∙ (e1 .1 .1))))))))))))))))))))))))))))))))))))))
+        ((e2 .1 .1) ∙ (e1 .1 .1)))))))))))))))))))))))))))))))))))
 
 module _ {M : Type 1} (𝓤 : URA M) (H : Heap 𝓤) (A : Atoms 𝓤) (W : Given 𝓤 H A) (mem : Memory → SProp 𝓤) (run : Routine → Fun 𝓤) where
   own-walks : (C : Calls 𝓤 H) (Λ : Loops 𝓤 H) → FmC 𝓤 H (W .laws) C → Triple 𝓤 (C #call-1) (Sweep Asks RowsSay 𝓤 H A) →
       Triple 𝓤 (C #call-2) (Sweep Asks ColumnsSay 𝓤 H A) → Walks 𝓤 H A own.ended stayed (WpFn 𝓤 H C Λ code.function) (own.clauses 𝓤 H A mem run)
   own-walks C Λ fm known-1 known-2 = walked 𝓤 H A own.ended stayed (own.clauses 𝓤 H A mem run) (WpFn 𝓤 H C Λ code.function)
-      (λ κs. (
-        LL.vals T.the-type T′.the-laws,
-        (
-          slice-vals,
-          (uint-vals w64, (uint-vals w64, (uint-vals w64, (uint-vals w64, (uint-vals w64, (uint-vals w64, (uint-vals w64, (bool-vals, tt)))))))),
-        ),
-      ))
+      (λ κs. (LL.vals T.the-type T′.the-laws, (slice-vals, (LL.vals P.the-type P′.the-laws, (uint-vals w64, (uint-vals w64, (bool-vals, tt)))))))
       (λ κs. (
         LL.tells T.the-type T′.the-laws,
-        (
-          mut-slice-tells (named 0) (κs .0) u8,
-          (uint-tells w64, (uint-tells w64, (uint-tells w64, (uint-tells w64, (uint-tells w64, (uint-tells w64, (uint-tells w64, (bool-tells, tt)))))))),
-        ),
+        (mut-slice-tells (named 0) (κs .0) u8, (LL.tells P.the-type P′.the-laws, (uint-tells w64, (uint-tells w64, (bool-tells, tt))))),
       ))
       (λ κs qs bounds a g are. needs 𝓤 (Asked (a .0) (a .1 .0 .now) (a .1 .1)) _ (λ ok.
-      walk 𝓤 H A W mem run (κs .0) (qs .0) (a .0) (a .1 .0 .ptr .0) (a .1 .0 .ptr .1) (a .1 .0 .name) (a .1 .0 .now) (a .1 .1) ok (are .0) (
-        are .1 .1 .0 .1,
-        (
-          are .1 .1 .1 .0 .1,
-          (
-            are .1 .1 .1 .1 .0 .1,
-            (are .1 .1 .1 .1 .1 .0 .1, (are .1 .1 .1 .1 .1 .1 .0 .1, (are .1 .1 .1 .1 .1 .1 .1 .0 .1, are .1 .1 .1 .1 .1 .1 .1 .1 .0 .1))),
-          ),
-        ),
-      ) C Λ fm known-1 known-2 (are .1 .0 .0 .1)))
+      walk 𝓤 H A W mem run (κs .0) (qs .0) (a .0) (a .1 .0 .ptr .0) (a .1 .0 .ptr .1) (a .1 .0 .name) (a .1 .0 .now) (a .1 .1) ok (are .0)
+      (are .1 .1 .0, (are .1 .1 .1 .0 .1, are .1 .1 .1 .1 .0 .1)) C Λ fm known-1 known-2 (are .1 .0 .0 .1)))
 
 own-meets : {M : Type 1} (𝓤 : URA M) (H : Heap 𝓤) (A : Atoms 𝓤) → Given 𝓤 H A → (mem : Memory → SProp 𝓤) (run : Routine → Fun 𝓤) (𝓣 : Tables 𝓤 H) →
     Triple 𝓤 (𝓣 .C #call-1) (Sweep Asks RowsSay 𝓤 H A) → Triple 𝓤 (𝓣 .C #call-2) (Sweep Asks ColumnsSay 𝓤 H A)
@@ -299,22 +250,10 @@ own-meets 𝓤 H A W mem run 𝓣 known-1 known-2 =
       (
         goes-gave-slice 𝓤 H A W 1 0 tt (plain (λ _. u8)),
         (
-          goes-none 𝓤 H A W 1 (λ _. usize) yes (λ κs y g. refl),
+          goes-none 𝓤 H A W 1 (λ _. P.the-row) yes (λ κs y g. refl),
           (
             goes-none 𝓤 H A W 1 (λ _. usize) yes (λ κs y g. refl),
-            (
-              goes-none 𝓤 H A W 1 (λ _. usize) yes (λ κs y g. refl),
-              (
-                goes-none 𝓤 H A W 1 (λ _. usize) yes (λ κs y g. refl),
-                (
-                  goes-none 𝓤 H A W 1 (λ _. usize) yes (λ κs y g. refl),
-                  (
-                    goes-none 𝓤 H A W 1 (λ _. usize) yes (λ κs y g. refl),
-                    (goes-none 𝓤 H A W 1 (λ _. usize) yes (λ κs y g. refl), (goes-none 𝓤 H A W 1 (λ _. bool) yes (λ κs y g. refl), tt)),
-                  ),
-                ),
-              ),
-            ),
+            (goes-none 𝓤 H A W 1 (λ _. usize) yes (λ κs y g. refl), (goes-none 𝓤 H A W 1 (λ _. bool) yes (λ κs y g. refl), tt)),
           ),
         ),
       ),

@@ -48,11 +48,15 @@ use denote.Exit.{yes}
 use Rattle.imgproc.specs.declared.morphology.tally.Tally.{Tally}
 use Rattle.imgproc.proofs.morphology.tally.Tally as T
 use Rattle.imgproc.proofs.morphology.tally.Tally.Laws as T′
+use Rattle.imgproc.proofs.morphology.sweeps.Planes as P
+use Rattle.imgproc.proofs.morphology.sweeps.Planes.Laws as P′
+use Rattle.imgproc.proofs.morphology.rect.Thin.{planesVal}
 use Rattle.imgproc.proofs.morphology.rect.SliceAgain.{LentAgain, lends-again-at, comes-back-at}
 use Rattle.imgproc.proofs.morphology.rect.LocalTally.{val, cell, Fits, Ref, Held, local-lends, local-back}
 use Rattle.imgproc.proofs.morphology.rect.Called.{Sweep, to, goes, After, gives}
 use Rattle.imgproc.proofs.morphology.rect.Says.{Asks, RowsSay, ColumnsSay}
-use Rattle.imgproc.proofs.morphology.rect.TwiceNumbers.{Own, OwnFit, num-1, num-2, num-3, num-4, fit-1, fit-2, fit-3, fit-4, Asked, Done}
+use Rattle.imgproc.proofs.morphology.rect.TwiceNumbers.{Own, OwnFit, num-1, num-2, num-3, num-4, fit-1, fit-2, fit-3, fit-4, in-place, in-place-fit}
+use Rattle.imgproc.proofs.morphology.rect.TwiceNumbers.{Asked, Done}
 use Rattle.imgproc.proofs.morphology.rect.TwiceFacts.{asks-1, asks-2, asks-3, asks-4, at-exit}
 use Rattle.imgproc.proofs.morphology.rect.sweep_rows as call-1
 use Rattle.imgproc.proofs.morphology.rect.sweep_rows.Symbol as call-1-def
@@ -73,63 +77,30 @@ stayed = (
   (
     gave-slice (0 ∷ []) tt (plain (λ _. u8)),
     (
-      stay-none (λ _. usize) yes,
-      (
-        stay-none (λ _. usize) yes,
-        (
-          stay-none (λ _. usize) yes,
-          (
-            stay-none (λ _. usize) yes,
-            (
-              stay-none (λ _. usize) yes,
-              (stay-none (λ _. usize) yes, (stay-none (λ _. usize) yes, (stay-none (λ _. bool) yes, (stay-none (λ _. bool) yes, tt)))),
-            ),
-          ),
-        ),
-      ),
+      stay-none (λ _. P.the-row) yes,
+      (stay-none (λ _. usize) yes, (stay-none (λ _. usize) yes, (stay-none (λ _. bool) yes, (stay-none (λ _. bool) yes, tt)))),
     ),
   ),
 )
 
 -- its numbers' machine values, and what they own, had for nothing
 abbrev OwnVals : Type 0
-OwnVals = List Val × (List Val × (List Val × (List Val × (List Val × (List Val × (List Val × (List Val × (List Val × Unit {0}))))))))
+OwnVals = List Val × (List Val × (List Val × (List Val × (List Val × Unit {0}))))
 
 abbrev ownVals : Own → OwnVals
-ownVals x = (
-  vint w64 (x .0) ∷ [],
-  (
-    vint w64 (x .1 .0) ∷ [],
-    (
-      vint w64 (x .1 .1 .0) ∷ [],
-      (
-        vint w64 (x .1 .1 .1 .0) ∷ [],
-        (
-          vint w64 (x .1 .1 .1 .1 .0) ∷ [],
-          (
-            vint w64 (x .1 .1 .1 .1 .1 .0) ∷ [],
-            (vint w64 (x .1 .1 .1 .1 .1 .1 .0) ∷ [], (vbool (x .1 .1 .1 .1 .1 .1 .1 .0) ∷ [], (vbool (x .1 .1 .1 .1 .1 .1 .1 .1 .0) ∷ [], tt))),
-          ),
-        ),
-      ),
-    ),
-  ),
-)
+ownVals x =
+    (planesVal (x .0) ∷ [], (vint w64 (x .1 .0) ∷ [], (vint w64 (x .1 .1 .0) ∷ [], (vbool (x .1 .1 .1 .0) ∷ [], (vbool (x .1 .1 .1 .1 .0) ∷ [], tt)))))
 
 abbrev ownOwn : Own → Fml
-ownOwn x = owns (usize ∷ usize ∷ usize ∷ usize ∷ usize ∷ usize ∷ usize ∷ bool ∷ bool ∷ []) x (ownVals x)
+ownOwn x = owns (P.the-row ∷ usize ∷ usize ∷ bool ∷ bool ∷ []) x (ownVals x)
 
 has-own : {M : Type 1} (𝓤 : URA M) (H : Heap 𝓤) (A : Atoms 𝓤) (W : Given 𝓤 H A) (x : Own) → OwnFit x → ent 𝓤 (emp 𝓤) (sem 𝓤 H A (ownOwn x))
 has-own 𝓤 H A W x f =
-    qed W [] ∵ nothing ! $ owned ! bool (Is bool) (bool-makes 𝓤 H A W) (x .1 .1 .1 .1 .1 .1 .1 .1 .0) _ refl $ fjoin ! $
-    owned ! bool (Is bool) (bool-makes 𝓤 H A W) (x .1 .1 .1 .1 .1 .1 .1 .0) _ refl $ fjoin ! $
-    owned ! usize (Is usize) (uint-makes 𝓤 H A W w64) (x .1 .1 .1 .1 .1 .1 .0) _ (refl, f .1 .1 .1 .1 .1 .1) $ fjoin ! $
-    owned ! usize (Is usize) (uint-makes 𝓤 H A W w64) (x .1 .1 .1 .1 .1 .0) _ (refl, f .1 .1 .1 .1 .1 .0) $ fjoin ! $
-    owned ! usize (Is usize) (uint-makes 𝓤 H A W w64) (x .1 .1 .1 .1 .0) _ (refl, f .1 .1 .1 .1 .0) $ fjoin ! $
-    owned ! usize (Is usize) (uint-makes 𝓤 H A W w64) (x .1 .1 .1 .0) _ (refl, f .1 .1 .1 .0) $ fjoin ! $
-    owned ! usize (Is usize) (uint-makes 𝓤 H A W w64) (x .1 .1 .0) _ (refl, f .1 .1 .0) $ fjoin ! $
+    qed W [] ∵ nothing ! $ owned ! bool (Is bool) (bool-makes 𝓤 H A W) (x .1 .1 .1 .1 .0) _ refl $ fjoin ! $
+    owned ! bool (Is bool) (bool-makes 𝓤 H A W) (x .1 .1 .1 .0) _ refl $ fjoin ! $
+    owned ! usize (Is usize) (uint-makes 𝓤 H A W w64) (x .1 .1 .0) _ (refl, f .1 .1) $ fjoin ! $
     owned ! usize (Is usize) (uint-makes 𝓤 H A W w64) (x .1 .0) _ (refl, f .1 .0) $ fjoin ! $
-    owned ! usize (Is usize) (uint-makes 𝓤 H A W w64) (x .0) _ (refl, f .0) $ fjoin ! $ done !
+    owned ! P.the-row (Is P.the-row) ((LL.makes P.the-type P′.the-plain) 𝓤 H A) (x .0) _ (f .0) $ fjoin ! $ done !
 
 -- the machine value that a call of a sweep leaves has its local's type
 unit-typed : (w : Val) → w ≡ vunit → Holds (hasTy tyUnit w) × WT w
@@ -151,8 +122,7 @@ module _ {M : Type 1} (𝓤 : URA M) (H : Heap 𝓤) (A : Atoms 𝓤) (W : Given
   bound = (((κ, tt), (q, tt), tt, a, (val h₀ ∷ [], (v ∷ [], ownVals x))), tt)
 
   abbrev passed : List Val
-  passed = val h₀ ∷ v ∷ vint w64 (x .0) ∷ vint w64 (x .1 .0) ∷ vint w64 (x .1 .1 .0) ∷ vint w64 (x .1 .1 .1 .0) ∷ vint w64 (x .1 .1 .1 .1 .0) ∷
-      vint w64 (x .1 .1 .1 .1 .1 .0) ∷ vint w64 (x .1 .1 .1 .1 .1 .1 .0) ∷ vbool (x .1 .1 .1 .1 .1 .1 .1 .0) ∷ vbool (x .1 .1 .1 .1 .1 .1 .1 .1 .0) ∷ []
+  passed = val h₀ ∷ v ∷ planesVal (x .0) ∷ vint w64 (x .1 .0) ∷ vint w64 (x .1 .1 .0) ∷ vbool (x .1 .1 .1 .0) ∷ vbool (x .1 .1 .1 .1 .0) ∷ []
 
   abbrev Post : Val → SProp 𝓤
   Post = walkOf 𝓤 H A own.ended stayed (own.clauses 𝓤 H A at-mem run) .post bound
@@ -164,9 +134,8 @@ module _ {M : Type 1} (𝓤 : URA M) (H : Heap 𝓤) (A : Atoms 𝓤) (W : Given
   exits : (r : Tally) (zs : List ℕ) → Done h₀ l x r zs → Fits r → length zs ≡ length l → ent 𝓤 (⋆ 𝓤 H A (Left zs)) (Post (val r))
   exits r zs e is long =
       qed W (Left zs) ∵
-      suffices ! _ (ends-at 𝓤 H A own.ended stayed (own.clauses 𝓤 H A at-mem run) W bound (val r) r
-      (tt, (zs, (tt, (tt, (tt, (tt, (tt, (tt, (tt, (tt, (tt, tt))))))))))) (tt, (long, (tt, (tt, (tt, (tt, (tt, (tt, (tt, (tt, (tt, tt)))))))))))) $
-      says ! e $
+      suffices ! _ (ends-at 𝓤 H A own.ended stayed (own.clauses 𝓤 H A at-mem run) W bound (val r) r (tt, (zs, (tt, (tt, (tt, (tt, (tt, tt)))))))
+      (tt, (long, (tt, (tt, (tt, (tt, (tt, tt)))))))) $ says ! e $
       nothing ! $ move ! (1 ∷ 0 ∷ []) $ join ! $ frame ! $
       use0 W (‵ (ownOwn x)) (has-own 𝓤 H A W x fit) $ move ! (1 ∷ 0 ∷ []) $ fjoin ! $
       owned ! T.the-row (Is T.the-row) ((LL.makes T.the-type T′.the-plain) 𝓤 H A) h₀ _ fits₀ $ fjoin ! $ frame ! $
@@ -177,206 +146,178 @@ module _ {M : Type 1} (𝓤 : URA M) (H : Heap 𝓤) (A : Atoms 𝓤) (W : Given
     walk : Room u8 (length l) → ent 𝓤 (onEntry 𝓤 H A own.signature (κ, tt) (q, tt) a (val h₀ ∷ [], (v ∷ [], ownVals x)))
         (WpFn 𝓤 H C Λ code.function passed Post)
     walk room =
-        qed W ((‵ (flft κ q) ⊛ ‵ ftrue) ∷ ‵ (owns (T.the-row ∷ MutSlice (named 0) κ u8 ∷ usize ∷ usize ∷ usize ∷ usize ∷ usize ∷ usize ∷ usize ∷ bool ∷
-        bool ∷ []) a (val h₀ ∷ [], (v ∷ [], ownVals x))) ∷ []) ∵
+        qed W ((‵ (flft κ q) ⊛ ‵ ftrue) ∷ ‵ (owns (T.the-row ∷ MutSlice (named 0) κ u8 ∷ P.the-row ∷ usize ∷ usize ∷ bool ∷ bool ∷ []) a
+        (val h₀ ∷ [], (v ∷ [], ownVals x))) ∷ []) ∵
         split ! $ move ! (1 ∷ []) $ drop ! $
         move ! (1 ∷ []) $ fsplit ! $ drop ! $ fsplit ! $ move ! (1 ∷ []) $ drop ! $
         enter ! C Λ code.function passed _ $
         alloc1 ! (λ l₀. alloc1 ! (λ l₁. alloc1 ! (λ l₂. alloc1 ! (λ l₃. alloc1 ! (λ l₄. alloc1 ! (λ l₅. alloc1 ! (λ l₆. alloc1 ! (λ l₇. alloc1 ! (λ l₈.
         alloc1 ! (λ l₉. alloc1 ! (λ l₁₀. alloc1 ! (λ l₁₁. alloc1 ! (λ l₁₂. alloc1 ! (λ l₁₃. alloc1 ! (λ l₁₄. alloc1 ! (λ l₁₅. alloc1 ! (λ l₁₆.
-        alloc1 ! (λ l₁₇. alloc1 ! (λ l₁₈. alloc1 ! (λ l₁₉. alloc1 ! (λ l₂₀. alloc1 ! (λ l₂₁. alloc1 ! (λ l₂₂. alloc1 ! (λ l₂₃. alloc1 ! (λ l₂₄.
-        alloc1 ! (λ l₂₅. alloc0 ! $ params1 ! $
-        pass1 ! (init ! 48 refl (LL.lawful T.the-type T′.the-laws 𝓤 H A W .typed h₀ _ fits₀ .0)) $
-        pass1 ! (init ! 46 refl (tt, (tt, (record { fits = room .0 }, tt)))) $ pass1 ! (init ! 44 refl (tt, record { fits = fit .0 })) $
-        pass1 ! (init ! 42 refl (tt, record { fits = fit .1 .0 })) $ pass1 ! (init ! 40 refl (tt, record { fits = fit .1 .1 .0 })) $
-        pass1 ! (init ! 38 refl (tt, record { fits = fit .1 .1 .1 .0 })) $ pass1 ! (init ! 36 refl (tt, record { fits = fit .1 .1 .1 .1 .0 })) $
-        pass1 ! (init ! 34 refl (tt, record { fits = fit .1 .1 .1 .1 .1 .0 })) $ pass1 ! (init ! 32 refl (tt, record { fits = fit .1 .1 .1 .1 .1 .1 })) $
-        pass1 ! (init ! 30 refl (tt, tt)) $ pass1 ! (init ! 28 refl (tt, tt)) $ pass0 ! $
-        assigns ! (of-opd ! (load ! (from ! (stop !)) (look ! 48 refl))) (from ! (stop !))
-        (init ! 26 refl (LL.lawful T.the-type T′.the-laws 𝓤 H A W .typed h₀ _ fits₀ .0)) $
+        alloc1 ! (λ l₁₇. alloc1 ! (λ l₁₈. alloc1 ! (λ l₁₉. alloc1 ! (λ l₂₀. alloc1 ! (λ l₂₁. alloc1 ! (λ l₂₂. alloc0 ! $ params1 ! $
+        pass1 ! (init ! 42 refl (LL.lawful T.the-type T′.the-laws 𝓤 H A W .typed h₀ _ fits₀ .0)) $
+        pass1 ! (init ! 40 refl (tt, (tt, (record { fits = room .0 }, tt)))) $ pass1 ! (init ! 38 refl
+        (LL.lawful P.the-type P′.the-laws 𝓤 H A W .typed (x .0) _ (fit .0) .0)) $ pass1 ! (init ! 36 refl (tt, record { fits = fit .1 .0 })) $
+        pass1 ! (init ! 34 refl (tt, record { fits = fit .1 .1 })) $ pass1 ! (init ! 32 refl (tt, tt)) $ pass1 ! (init ! 30 refl (tt, tt)) $ pass0 ! $
+        assigns ! (of-opd ! (load ! (from ! (stop !)) (look ! 42 refl))) (from ! (stop !))
+        (init ! 28 refl (LL.lawful T.the-type T′.the-laws 𝓤 H A W .typed h₀ _ fits₀ .0)) $
+        assigns ! (agg ! (and-then ! (load ! (from ! (fld ! refl (stop !))) (look-in ! 38 (sub ! 1 refl (whole !))))
+        (and-then ! (load ! (from ! (fld ! refl (stop !))) (look-in ! 38 (sub ! 1 refl (whole !))))
+        (and-then ! (load ! (from ! (fld ! refl (stop !))) (look-in ! 38 (sub ! 2 refl (whole !))))
+        (and-then ! (load ! (from ! (fld ! refl (stop !))) (look-in ! 38 (sub ! 3 refl (whole !))))
+        (and-then ! (load ! (from ! (fld ! refl (stop !))) (look-in ! 38 (sub ! 4 refl (whole !)))) (no-more !))))))) (from ! (stop !))
+        (init ! 26 refl (LL.lawful P.the-type P′.the-laws 𝓤 H A W .typed (in-place x) _ (in-place-fit x fit) .0)) $
         -- the call of `sweep_rows`
         assigns ! (addr ! (from ! (stop !))) (from ! (stop !)) (init ! 22 refl (tt, tt)) $
-        assigns ! (addr ! (from ! (fld ! refl (hop ! (look-in ! 46 (sub ! 0 refl (whole !))) (stop !))))) (from ! (stop !)) (init ! 20 refl (tt, tt)) $
+        assigns ! (addr ! (from ! (fld ! refl (hop ! (look-in ! 40 (sub ! 0 refl (whole !))) (stop !))))) (from ! (stop !)) (init ! 20 refl (tt, tt)) $
         assigns ! (agg ! (and-then ! (load ! (from ! (stop !)) (look ! 20 refl)) (and-then ! (load ! (from ! (fld ! refl (stop !)))
-        (look-in ! 46 (sub ! 1 refl (whole !)))) (no-more !)))) (from ! (stop !)) (init ! 18 refl (tt, (tt, (record { fits = room .0 }, tt)))) $
+        (look-in ! 40 (sub ! 1 refl (whole !)))) (no-more !)))) (from ! (stop !)) (init ! 18 refl (tt, (tt, (record { fits = room .0 }, tt)))) $
         lft-new ! tt (λ ν1. lft-new ! tt (λ μ1.
-        move ! (54 ∷ 55 ∷ []) $ use2 W (later (some (λ (δ1 : GName). ‵ (MutSlice (named 1) (μ1 ∷ []) u8 .own (lent δ1 l) (v ∷ [])) ⊛
+        move ! (48 ∷ 49 ∷ []) $ use2 W (later (some (λ (δ1 : GName). ‵ (MutSlice (named 1) (μ1 ∷ []) u8 .own (lent δ1 l) (v ∷ [])) ⊛
         ‵ (LentAgain u8 κ (μ1 ∷ []) q γ b o δ1 l)))) (lends-again-at u8 κ (μ1 ∷ []) q γ b o 𝓤 H A W (named 0) (named 1) l (length l) refl) $ await ! tt $
         pick ! (λ δ1. split ! $
-        move ! (30 ∷ []) $ use1 W (later (some (λ (γ1 : GName). ‵ (Ref 𝓤 H A W (ν1 ∷ []) l₁₂ (named 0) γ1 h₀) ⊛ ‵ (Held 𝓤 H A W (ν1 ∷ []) l₁₂ γ1))))
-        (local-lends 𝓤 H A W (ν1 ∷ []) l₁₂ (named 0) h₀ fits₀) $ await ! tt $ pick ! (λ γ1. split ! $
-        -- [0: t; 1: held; 2: lent; 3: kept; 4: μ1; 5: ν1; 6: _25; 8: _24; 10: _23; 12: _22; 14: _21; 16: _20; 18: _19; 20: _18; 22: _17; 24: _16; 26: _15;
-        --   28: _14; 30: _13; 33: _11; 35: _10; 37: _9; 39: _8; 41: _7; 43: _6; 45: _5; 47: _4; 49: _3; 51: _2; 53: _1; 55: _0]
+        move ! (32 ∷ []) $ use1 W (later (some (λ (γ1 : GName). ‵ (Ref 𝓤 H A W (ν1 ∷ []) l₈ (named 0) γ1 h₀) ⊛ ‵ (Held 𝓤 H A W (ν1 ∷ []) l₈ γ1))))
+        (local-lends 𝓤 H A W (ν1 ∷ []) l₈ (named 0) h₀ fits₀) $ await ! tt $ pick ! (λ γ1. split ! $
+        -- [0: t; 1: held; 2: lent; 3: kept; 4: μ1; 5: ν1; 6: _22; 8: _21; 10: _20; 12: _19; 14: _18; 16: _17; 18: _16; 20: _15; 22: _14; 24: _13; 26: _12;
+        --   28: _11; 30: _10; 32: _9; 35: _7; 37: _6; 39: _5; 41: _4; 43: _3; 45: _2; 47: _1; 49: _0]
         move ! (5 ∷ 4 ∷ 0 ∷ 2 ∷ []) $ group ! 4 $ use1 W (raw (Sweep Asks RowsSay 𝓤 H A .pre
-        (to Asks RowsSay 𝓤 H A W (num-1 x) (ν1 ∷ []) (μ1 ∷ []) fullShare l₁₂ γ1 h₀ (lent δ1 l) v)))
-        (goes Asks RowsSay 𝓤 H A W (num-1 x) (ν1 ∷ []) (μ1 ∷ []) fullShare l₁₂ γ1 h₀ (lent δ1 l) v (fit-1 x fit) (asks-1 h₀ l x ok room)) $
-        calls-at ! fm (Sweep Asks RowsSay 𝓤 H A) known-1 (to Asks RowsSay 𝓤 H A W (num-1 x) (ν1 ∷ []) (μ1 ∷ []) fullShare l₁₂ γ1 h₀ (lent δ1 l) v)
+        (to Asks RowsSay 𝓤 H A W (num-1 x) (ν1 ∷ []) (μ1 ∷ []) fullShare l₈ γ1 h₀ (lent δ1 l) v)))
+        (goes Asks RowsSay 𝓤 H A W (num-1 x) (ν1 ∷ []) (μ1 ∷ []) fullShare l₈ γ1 h₀ (lent δ1 l) v (fit-1 x fit) (asks-1 h₀ l x ok room)) $
+        calls-at ! fm (Sweep Asks RowsSay 𝓤 H A) known-1 (to Asks RowsSay 𝓤 H A W (num-1 x) (ν1 ∷ []) (μ1 ∷ []) fullShare l₈ γ1 h₀ (lent δ1 l) v)
         (and-then ! (load ! (from ! (stop !)) (look ! 25 refl)) (and-then ! (load ! (from ! (stop !)) (look ! 21 refl))
-        (and-then ! (load ! (from ! (stop !)) (look ! 46 refl)) (and-then ! (load ! (from ! (stop !)) (look ! 44 refl))
-        (and-then ! (load ! (from ! (stop !)) (look ! 42 refl)) (and-then ! (load ! (from ! (stop !)) (look ! 40 refl))
-        (and-then ! (load ! (from ! (stop !)) (look ! 36 refl)) (and-then ! (load ! (from ! (stop !)) (look ! 34 refl))
-        (and-then ! (load ! (from ! (stop !)) (look ! 32 refl)) (no-more !)))))))))) (λ w1.
-        use1 W (later (After Asks RowsSay 𝓤 H A W (num-1 x) (ν1 ∷ []) (μ1 ∷ []) fullShare l₁₂ γ1 h₀ (lent δ1 l) v w1))
-        (gives Asks RowsSay 𝓤 H A W (num-1 x) (ν1 ∷ []) (μ1 ∷ []) fullShare l₁₂ γ1 h₀ (lent δ1 l) v w1) $ await ! tt $
+        (and-then ! (load ! (from ! (stop !)) (look ! 40 refl)) (and-then ! (load ! (from ! (stop !)) (look ! 38 refl))
+        (and-then ! (load ! (from ! (stop !)) (look ! 34 refl)) (no-more !)))))) (λ w1.
+        use1 W (later (After Asks RowsSay 𝓤 H A W (num-1 x) (ν1 ∷ []) (μ1 ∷ []) fullShare l₈ γ1 h₀ (lent δ1 l) v w1))
+        (gives Asks RowsSay 𝓤 H A W (num-1 x) (ν1 ∷ []) (μ1 ∷ []) fullShare l₈ γ1 h₀ (lent δ1 l) v w1) $ await ! tt $
         pick ! (λ r1. pick ! (λ zs1. learn ! (λ e1. split ! $
         land ! (from ! (stop !)) (init ! 28 refl (unit-typed w1 (e1 .0))) $ split ! $ move ! (1 ∷ []) $ split ! $ move ! (1 ∷ []) $ drop ! $
         move ! (2 ∷ []) $ split ! $
         -- the tally is back, and then the slice
-        move ! (3 ∷ []) $ lft-end ! tt $ move ! (0 ∷ 4 ∷ 1 ∷ []) $ use3 W (later (given (Fits r1) (‵ (cell l₁₂ r1))))
-        (local-back 𝓤 H A W (ν1 ∷ []) l₁₂ γ1 r1) $ await ! tt $ learn ! (λ fits1.
+        move ! (3 ∷ []) $ lft-end ! tt $ move ! (0 ∷ 4 ∷ 1 ∷ []) $ use3 W (later (given (Fits r1) (‵ (cell l₈ r1))))
+        (local-back 𝓤 H A W (ν1 ∷ []) l₈ γ1 r1) $ await ! tt $ learn ! (λ fits1.
         move ! (2 ∷ []) $ lft-end ! tt $ move ! (0 ∷ 3 ∷ 2 ∷ []) $ use3 W (later (‵ (MutSlice (named 0) κ u8 .own (lent γ zs1) (v ∷ [])) ⊛ ‵ (flft κ q)))
         (comes-back-at u8 κ (μ1 ∷ []) q γ b o 𝓤 H A W (named 0) (named 1) l (length l) refl δ1 zs1 room (e1 .1 .1)) $ await ! tt $ split ! $
         -- the call of `sweep_columns`
         assigns ! (addr ! (from ! (stop !))) (from ! (stop !)) (init ! 19 refl (tt, tt)) $
-        assigns ! (addr ! (from ! (fld ! refl (hop ! (look-in ! 48 (sub ! 0 refl (whole !))) (stop !))))) (from ! (stop !)) (init ! 17 refl (tt, tt)) $
+        assigns ! (addr ! (from ! (fld ! refl (hop ! (look-in ! 42 (sub ! 0 refl (whole !))) (stop !))))) (from ! (stop !)) (init ! 17 refl (tt, tt)) $
         assigns ! (agg ! (and-then ! (load ! (from ! (stop !)) (look ! 17 refl)) (and-then ! (load ! (from ! (fld ! refl (stop !)))
-        (look-in ! 48 (sub ! 1 refl (whole !)))) (no-more !)))) (from ! (stop !)) (init ! 15 refl (tt, (tt, (record { fits = room .0 }, tt)))) $
+        (look-in ! 42 (sub ! 1 refl (whole !)))) (no-more !)))) (from ! (stop !)) (init ! 15 refl (tt, (tt, (record { fits = room .0 }, tt)))) $
         lft-new ! tt (λ ν2. lft-new ! tt (λ μ2.
         move ! (2 ∷ 3 ∷ []) $ use2 W (later (some (λ (δ2 : GName). ‵ (MutSlice (named 1) (μ2 ∷ []) u8 .own (lent δ2 zs1) (v ∷ [])) ⊛
         ‵ (LentAgain u8 κ (μ2 ∷ []) q γ b o δ2 zs1)))) (lends-again-at u8 κ (μ2 ∷ []) q γ b o 𝓤 H A W (named 0) (named 1) zs1 (length l) (e1 .1 .1)) $
         await ! tt $ pick ! (λ δ2. split ! $
-        move ! (4 ∷ []) $ use1 W (later (some (λ (γ2 : GName). ‵ (Ref 𝓤 H A W (ν2 ∷ []) l₁₂ (named 0) γ2 r1) ⊛ ‵ (Held 𝓤 H A W (ν2 ∷ []) l₁₂ γ2))))
-        (local-lends 𝓤 H A W (ν2 ∷ []) l₁₂ (named 0) r1 fits1) $ await ! tt $ pick ! (λ γ2. split ! $
-        -- [0: t; 1: held; 2: lent; 3: kept; 4: μ2; 5: ν2; 6: _25; 8: _24; 10: _23; 12: _22; 14: _21; 16: _20; 18: _19; 20: _18; 22: _17; 24: _16; 26: _15;
-        --   28: _14; 30: _13; 33: _11; 35: _10; 37: _9; 39: _8; 41: _7; 43: _6; 45: _5; 47: _4; 49: _3; 51: _2; 53: _1; 55: _0]
+        move ! (4 ∷ []) $ use1 W (later (some (λ (γ2 : GName). ‵ (Ref 𝓤 H A W (ν2 ∷ []) l₈ (named 0) γ2 r1) ⊛ ‵ (Held 𝓤 H A W (ν2 ∷ []) l₈ γ2))))
+        (local-lends 𝓤 H A W (ν2 ∷ []) l₈ (named 0) r1 fits1) $ await ! tt $ pick ! (λ γ2. split ! $
+        -- [0: t; 1: held; 2: lent; 3: kept; 4: μ2; 5: ν2; 6: _22; 8: _21; 10: _20; 12: _19; 14: _18; 16: _17; 18: _16; 20: _15; 22: _14; 24: _13; 26: _12;
+        --   28: _11; 30: _10; 32: _9; 35: _7; 37: _6; 39: _5; 41: _4; 43: _3; 45: _2; 47: _1; 49: _0]
         move ! (5 ∷ 4 ∷ 0 ∷ 2 ∷ []) $ group ! 4 $ use1 W (raw (Sweep Asks ColumnsSay 𝓤 H A .pre
-        (to Asks ColumnsSay 𝓤 H A W (num-2 x) (ν2 ∷ []) (μ2 ∷ []) fullShare l₁₂ γ2 r1 (lent δ2 zs1) v)))
-        (goes Asks ColumnsSay 𝓤 H A W (num-2 x) (ν2 ∷ []) (μ2 ∷ []) fullShare l₁₂ γ2 r1 (lent δ2 zs1) v (fit-2 x fit)
+        (to Asks ColumnsSay 𝓤 H A W (num-2 x) (ν2 ∷ []) (μ2 ∷ []) fullShare l₈ γ2 r1 (lent δ2 zs1) v)))
+        (goes Asks ColumnsSay 𝓤 H A W (num-2 x) (ν2 ∷ []) (μ2 ∷ []) fullShare l₈ γ2 r1 (lent δ2 zs1) v (fit-2 x fit)
         (asks-2 h₀ l x ok room r1 zs1 (e1 .1 .0) (e1 .1 .1))) $
-        calls-at ! fm (Sweep Asks ColumnsSay 𝓤 H A) known-2 (to Asks ColumnsSay 𝓤 H A W (num-2 x) (ν2 ∷ []) (μ2 ∷ []) fullShare l₁₂ γ2 r1 (lent δ2 zs1) v)
+        calls-at ! fm (Sweep Asks ColumnsSay 𝓤 H A) known-2 (to Asks ColumnsSay 𝓤 H A W (num-2 x) (ν2 ∷ []) (μ2 ∷ []) fullShare l₈ γ2 r1 (lent δ2 zs1) v)
         (and-then ! (load ! (from ! (stop !)) (look ! 19 refl)) (and-then ! (load ! (from ! (stop !)) (look ! 15 refl))
-        (and-then ! (load ! (from ! (stop !)) (look ! 44 refl)) (and-then ! (load ! (from ! (stop !)) (look ! 44 refl))
-        (and-then ! (load ! (from ! (stop !)) (look ! 42 refl)) (and-then ! (load ! (from ! (stop !)) (look ! 38 refl))
-        (and-then ! (load ! (from ! (stop !)) (look ! 36 refl)) (and-then ! (load ! (from ! (stop !)) (look ! 34 refl))
-        (and-then ! (load ! (from ! (stop !)) (look ! 32 refl)) (no-more !)))))))))) (λ w2.
-        use1 W (later (After Asks ColumnsSay 𝓤 H A W (num-2 x) (ν2 ∷ []) (μ2 ∷ []) fullShare l₁₂ γ2 r1 (lent δ2 zs1) v w2))
-        (gives Asks ColumnsSay 𝓤 H A W (num-2 x) (ν2 ∷ []) (μ2 ∷ []) fullShare l₁₂ γ2 r1 (lent δ2 zs1) v w2) $ await ! tt $
+        (and-then ! (load ! (from ! (stop !)) (look ! 29 refl)) (and-then ! (load ! (from ! (stop !)) (look ! 36 refl))
+        (and-then ! (load ! (from ! (stop !)) (look ! 34 refl)) (no-more !)))))) (λ w2.
+        use1 W (later (After Asks ColumnsSay 𝓤 H A W (num-2 x) (ν2 ∷ []) (μ2 ∷ []) fullShare l₈ γ2 r1 (lent δ2 zs1) v w2))
+        (gives Asks ColumnsSay 𝓤 H A W (num-2 x) (ν2 ∷ []) (μ2 ∷ []) fullShare l₈ γ2 r1 (lent δ2 zs1) v w2) $ await ! tt $
         pick ! (λ r2. pick ! (λ zs2. learn ! (λ e2. split ! $
         land ! (from ! (stop !)) (store ! 28 refl (unit-typed w2 (e2 .0))) $ split ! $ move ! (1 ∷ []) $ split ! $ move ! (1 ∷ []) $ drop ! $
         move ! (2 ∷ []) $ split ! $
         -- the tally is back, and then the slice
-        move ! (3 ∷ []) $ lft-end ! tt $ move ! (0 ∷ 4 ∷ 1 ∷ []) $ use3 W (later (given (Fits r2) (‵ (cell l₁₂ r2))))
-        (local-back 𝓤 H A W (ν2 ∷ []) l₁₂ γ2 r2) $ await ! tt $ learn ! (λ fits2.
+        move ! (3 ∷ []) $ lft-end ! tt $ move ! (0 ∷ 4 ∷ 1 ∷ []) $ use3 W (later (given (Fits r2) (‵ (cell l₈ r2))))
+        (local-back 𝓤 H A W (ν2 ∷ []) l₈ γ2 r2) $ await ! tt $ learn ! (λ fits2.
         move ! (2 ∷ []) $ lft-end ! tt $ move ! (0 ∷ 3 ∷ 2 ∷ []) $ use3 W (later (‵ (MutSlice (named 0) κ u8 .own (lent γ zs2) (v ∷ [])) ⊛ ‵ (flft κ q)))
         (comes-back-at u8 κ (μ2 ∷ []) q γ b o 𝓤 H A W (named 0) (named 1) zs1 (length l) (e1 .1 .1) δ2 zs2 (subst (Room u8) (sym (e1 .1 .1)) room)
         (e2 .1 .1)) $ await ! tt $ split ! $
         -- the call of `sweep_rows`
         assigns ! (addr ! (from ! (stop !))) (from ! (stop !)) (init ! 13 refl (tt, tt)) $
-        assigns ! (addr ! (from ! (fld ! refl (hop ! (look-in ! 48 (sub ! 0 refl (whole !))) (stop !))))) (from ! (stop !)) (init ! 11 refl (tt, tt)) $
+        assigns ! (addr ! (from ! (fld ! refl (hop ! (look-in ! 42 (sub ! 0 refl (whole !))) (stop !))))) (from ! (stop !)) (init ! 11 refl (tt, tt)) $
         assigns ! (agg ! (and-then ! (load ! (from ! (stop !)) (look ! 11 refl)) (and-then ! (load ! (from ! (fld ! refl (stop !)))
-        (look-in ! 48 (sub ! 1 refl (whole !)))) (no-more !)))) (from ! (stop !)) (init ! 9 refl (tt, (tt, (record { fits = room .0 }, tt)))) $
+        (look-in ! 42 (sub ! 1 refl (whole !)))) (no-more !)))) (from ! (stop !)) (init ! 9 refl (tt, (tt, (record { fits = room .0 }, tt)))) $
         lft-new ! tt (λ ν3. lft-new ! tt (λ μ3.
         move ! (2 ∷ 3 ∷ []) $ use2 W (later (some (λ (δ3 : GName). ‵ (MutSlice (named 1) (μ3 ∷ []) u8 .own (lent δ3 zs2) (v ∷ [])) ⊛
         ‵ (LentAgain u8 κ (μ3 ∷ []) q γ b o δ3 zs2)))) (lends-again-at u8 κ (μ3 ∷ []) q γ b o 𝓤 H A W (named 0) (named 1) zs2 (length l)
         ((e2 .1 .1) ∙ (e1 .1 .1))) $ await ! tt $ pick ! (λ δ3. split ! $
-        move ! (4 ∷ []) $ use1 W (later (some (λ (γ3 : GName). ‵ (Ref 𝓤 H A W (ν3 ∷ []) l₁₂ (named 0) γ3 r2) ⊛ ‵ (Held 𝓤 H A W (ν3 ∷ []) l₁₂ γ3))))
-        (local-lends 𝓤 H A W (ν3 ∷ []) l₁₂ (named 0) r2 fits2) $ await ! tt $ pick ! (λ γ3. split ! $
-        -- [0: t; 1: held; 2: lent; 3: kept; 4: μ3; 5: ν3; 6: _25; 8: _24; 10: _23; 12: _22; 14: _21; 16: _20; 18: _19; 20: _18; 22: _17; 24: _16; 26: _15;
-        --   28: _14; 30: _13; 33: _11; 35: _10; 37: _9; 39: _8; 41: _7; 43: _6; 45: _5; 47: _4; 49: _3; 51: _2; 53: _1; 55: _0]
+        move ! (4 ∷ []) $ use1 W (later (some (λ (γ3 : GName). ‵ (Ref 𝓤 H A W (ν3 ∷ []) l₈ (named 0) γ3 r2) ⊛ ‵ (Held 𝓤 H A W (ν3 ∷ []) l₈ γ3))))
+        (local-lends 𝓤 H A W (ν3 ∷ []) l₈ (named 0) r2 fits2) $ await ! tt $ pick ! (λ γ3. split ! $
+        -- [0: t; 1: held; 2: lent; 3: kept; 4: μ3; 5: ν3; 6: _22; 8: _21; 10: _20; 12: _19; 14: _18; 16: _17; 18: _16; 20: _15; 22: _14; 24: _13; 26: _12;
+        --   28: _11; 30: _10; 32: _9; 35: _7; 37: _6; 39: _5; 41: _4; 43: _3; 45: _2; 47: _1; 49: _0]
         move ! (5 ∷ 4 ∷ 0 ∷ 2 ∷ []) $ group ! 4 $ use1 W (raw (Sweep Asks RowsSay 𝓤 H A .pre
-        (to Asks RowsSay 𝓤 H A W (num-3 x) (ν3 ∷ []) (μ3 ∷ []) fullShare l₁₂ γ3 r2 (lent δ3 zs2) v)))
-        (goes Asks RowsSay 𝓤 H A W (num-3 x) (ν3 ∷ []) (μ3 ∷ []) fullShare l₁₂ γ3 r2 (lent δ3 zs2) v (fit-3 x fit)
+        (to Asks RowsSay 𝓤 H A W (num-3 x) (ν3 ∷ []) (μ3 ∷ []) fullShare l₈ γ3 r2 (lent δ3 zs2) v)))
+        (goes Asks RowsSay 𝓤 H A W (num-3 x) (ν3 ∷ []) (μ3 ∷ []) fullShare l₈ γ3 r2 (lent δ3 zs2) v (fit-3 x fit)
         (asks-3 h₀ l x ok room r1 zs1 (e1 .1 .0) (e1 .1 .1) r2 zs2 (e2 .1 .0) (e2 .1 .1))) $
-        calls-at ! fm (Sweep Asks RowsSay 𝓤 H A) known-1 (to Asks RowsSay 𝓤 H A W (num-3 x) (ν3 ∷ []) (μ3 ∷ []) fullShare l₁₂ γ3 r2 (lent δ3 zs2) v)
+        calls-at ! fm (Sweep Asks RowsSay 𝓤 H A) known-1 (to Asks RowsSay 𝓤 H A W (num-3 x) (ν3 ∷ []) (μ3 ∷ []) fullShare l₈ γ3 r2 (lent δ3 zs2) v)
         (and-then ! (load ! (from ! (stop !)) (look ! 13 refl)) (and-then ! (load ! (from ! (stop !)) (look ! 9 refl))
-        (and-then ! (load ! (from ! (stop !)) (look ! 44 refl)) (and-then ! (load ! (from ! (stop !)) (look ! 44 refl))
-        (and-then ! (load ! (from ! (stop !)) (look ! 42 refl)) (and-then ! (load ! (from ! (stop !)) (look ! 40 refl))
-        (and-then ! (load ! (from ! (stop !)) (look ! 36 refl)) (and-then ! (load ! (from ! (stop !)) (look ! 34 refl))
-        (and-then ! (load ! (from ! (stop !)) (look ! 30 refl)) (no-more !)))))))))) (λ w3.
-        use1 W (later (After Asks RowsSay 𝓤 H A W (num-3 x) (ν3 ∷ []) (μ3 ∷ []) fullShare l₁₂ γ3 r2 (lent δ3 zs2) v w3))
-        (gives Asks RowsSay 𝓤 H A W (num-3 x) (ν3 ∷ []) (μ3 ∷ []) fullShare l₁₂ γ3 r2 (lent δ3 zs2) v w3) $ await ! tt $
+        (and-then ! (load ! (from ! (stop !)) (look ! 29 refl)) (and-then ! (load ! (from ! (stop !)) (look ! 38 refl))
+        (and-then ! (load ! (from ! (stop !)) (look ! 32 refl)) (no-more !)))))) (λ w3.
+        use1 W (later (After Asks RowsSay 𝓤 H A W (num-3 x) (ν3 ∷ []) (μ3 ∷ []) fullShare l₈ γ3 r2 (lent δ3 zs2) v w3))
+        (gives Asks RowsSay 𝓤 H A W (num-3 x) (ν3 ∷ []) (μ3 ∷ []) fullShare l₈ γ3 r2 (lent δ3 zs2) v w3) $ await ! tt $
         pick ! (λ r3. pick ! (λ zs3. learn ! (λ e3. split ! $
         land ! (from ! (stop !)) (store ! 28 refl (unit-typed w3 (e3 .0))) $ split ! $ move ! (1 ∷ []) $ split ! $ move ! (1 ∷ []) $ drop ! $
         move ! (2 ∷ []) $ split ! $
         -- the tally is back, and then the slice
-        move ! (3 ∷ []) $ lft-end ! tt $ move ! (0 ∷ 4 ∷ 1 ∷ []) $ use3 W (later (given (Fits r3) (‵ (cell l₁₂ r3))))
-        (local-back 𝓤 H A W (ν3 ∷ []) l₁₂ γ3 r3) $ await ! tt $ learn ! (λ fits3.
+        move ! (3 ∷ []) $ lft-end ! tt $ move ! (0 ∷ 4 ∷ 1 ∷ []) $ use3 W (later (given (Fits r3) (‵ (cell l₈ r3))))
+        (local-back 𝓤 H A W (ν3 ∷ []) l₈ γ3 r3) $ await ! tt $ learn ! (λ fits3.
         move ! (2 ∷ []) $ lft-end ! tt $ move ! (0 ∷ 3 ∷ 2 ∷ []) $ use3 W (later (‵ (MutSlice (named 0) κ u8 .own (lent γ zs3) (v ∷ [])) ⊛ ‵ (flft κ q)))
         (comes-back-at u8 κ (μ3 ∷ []) q γ b o 𝓤 H A W (named 0) (named 1) zs2 (length l) ((e2 .1 .1) ∙ (e1 .1 .1)) δ3 zs3
         (subst (Room u8) (sym ((e2 .1 .1) ∙ (e1 .1 .1))) room) (e3 .1 .1)) $ await ! tt $ split ! $
         -- the call of `sweep_columns`
         assigns ! (addr ! (from ! (stop !))) (from ! (stop !)) (init ! 7 refl (tt, tt)) $
-        assigns ! (addr ! (from ! (fld ! refl (hop ! (look-in ! 48 (sub ! 0 refl (whole !))) (stop !))))) (from ! (stop !)) (init ! 5 refl (tt, tt)) $
+        assigns ! (addr ! (from ! (fld ! refl (hop ! (look-in ! 42 (sub ! 0 refl (whole !))) (stop !))))) (from ! (stop !)) (init ! 5 refl (tt, tt)) $
         assigns ! (agg ! (and-then ! (load ! (from ! (stop !)) (look ! 5 refl)) (and-then ! (load ! (from ! (fld ! refl (stop !)))
-        (look-in ! 48 (sub ! 1 refl (whole !)))) (no-more !)))) (from ! (stop !)) (init ! 3 refl (tt, (tt, (record { fits = room .0 }, tt)))) $
+        (look-in ! 42 (sub ! 1 refl (whole !)))) (no-more !)))) (from ! (stop !)) (init ! 3 refl (tt, (tt, (record { fits = room .0 }, tt)))) $
         lft-new ! tt (λ ν4.
-        move ! (3 ∷ []) $ use1 W (later (some (λ (γ4 : GName). ‵ (Ref 𝓤 H A W (ν4 ∷ []) l₁₂ (named 0) γ4 r3) ⊛ ‵ (Held 𝓤 H A W (ν4 ∷ []) l₁₂ γ4))))
-        (local-lends 𝓤 H A W (ν4 ∷ []) l₁₂ (named 0) r3 fits3) $ await ! tt $ pick ! (λ γ4. split ! $
-        -- [0: t; 1: held; 2: ν4; 3: ws; 4: tok; 5: _25; 7: _24; 9: _23; 11: _22; 13: _21; 15: _20; 17: _19; 19: _18; 21: _17; 23: _16; 25: _15; 27: _14;
-        --   29: _13; 32: _11; 34: _10; 36: _9; 38: _8; 40: _7; 42: _6; 44: _5; 46: _4; 48: _3; 50: _2; 52: _1; 54: _0]
+        move ! (3 ∷ []) $ use1 W (later (some (λ (γ4 : GName). ‵ (Ref 𝓤 H A W (ν4 ∷ []) l₈ (named 0) γ4 r3) ⊛ ‵ (Held 𝓤 H A W (ν4 ∷ []) l₈ γ4))))
+        (local-lends 𝓤 H A W (ν4 ∷ []) l₈ (named 0) r3 fits3) $ await ! tt $ pick ! (λ γ4. split ! $
+        -- [0: t; 1: held; 2: ν4; 3: ws; 4: tok; 5: _22; 7: _21; 9: _20; 11: _19; 13: _18; 15: _17; 17: _16; 19: _15; 21: _14; 23: _13; 25: _12; 27: _11;
+        --   29: _10; 31: _9; 34: _7; 36: _6; 38: _5; 40: _4; 42: _3; 44: _2; 46: _1; 48: _0]
         move ! (2 ∷ 4 ∷ 0 ∷ 3 ∷ []) $ group ! 4 $ use1 W (raw (Sweep Asks ColumnsSay 𝓤 H A .pre
-        (to Asks ColumnsSay 𝓤 H A W (num-4 x) (ν4 ∷ []) κ q l₁₂ γ4 r3 (lent γ zs3) v)))
-        (goes Asks ColumnsSay 𝓤 H A W (num-4 x) (ν4 ∷ []) κ q l₁₂ γ4 r3 (lent γ zs3) v (fit-4 x fit)
+        (to Asks ColumnsSay 𝓤 H A W (num-4 x) (ν4 ∷ []) κ q l₈ γ4 r3 (lent γ zs3) v)))
+        (goes Asks ColumnsSay 𝓤 H A W (num-4 x) (ν4 ∷ []) κ q l₈ γ4 r3 (lent γ zs3) v (fit-4 x fit)
         (asks-4 h₀ l x ok room r1 zs1 (e1 .1 .0) (e1 .1 .1) r2 zs2 (e2 .1 .0) (e2 .1 .1) r3 zs3 (e3 .1 .0) (e3 .1 .1))) $
-        calls-at ! fm (Sweep Asks ColumnsSay 𝓤 H A) known-2 (to Asks ColumnsSay 𝓤 H A W (num-4 x) (ν4 ∷ []) κ q l₁₂ γ4 r3 (lent γ zs3) v)
+        calls-at ! fm (Sweep Asks ColumnsSay 𝓤 H A) known-2 (to Asks ColumnsSay 𝓤 H A W (num-4 x) (ν4 ∷ []) κ q l₈ γ4 r3 (lent γ zs3) v)
         (and-then ! (load ! (from ! (stop !)) (look ! 6 refl)) (and-then ! (load ! (from ! (stop !)) (look ! 2 refl))
-        (and-then ! (load ! (from ! (stop !)) (look ! 43 refl)) (and-then ! (load ! (from ! (stop !)) (look ! 43 refl))
-        (and-then ! (load ! (from ! (stop !)) (look ! 41 refl)) (and-then ! (load ! (from ! (stop !)) (look ! 37 refl))
-        (and-then ! (load ! (from ! (stop !)) (look ! 35 refl)) (and-then ! (load ! (from ! (stop !)) (look ! 33 refl))
-        (and-then ! (load ! (from ! (stop !)) (look ! 29 refl)) (no-more !)))))))))) (λ w4.
-        use1 W (later (After Asks ColumnsSay 𝓤 H A W (num-4 x) (ν4 ∷ []) κ q l₁₂ γ4 r3 (lent γ zs3) v w4))
-        (gives Asks ColumnsSay 𝓤 H A W (num-4 x) (ν4 ∷ []) κ q l₁₂ γ4 r3 (lent γ zs3) v w4) $ await ! tt $
+        (and-then ! (load ! (from ! (stop !)) (look ! 28 refl)) (and-then ! (load ! (from ! (stop !)) (look ! 35 refl))
+        (and-then ! (load ! (from ! (stop !)) (look ! 31 refl)) (no-more !)))))) (λ w4.
+        use1 W (later (After Asks ColumnsSay 𝓤 H A W (num-4 x) (ν4 ∷ []) κ q l₈ γ4 r3 (lent γ zs3) v w4))
+        (gives Asks ColumnsSay 𝓤 H A W (num-4 x) (ν4 ∷ []) κ q l₈ γ4 r3 (lent γ zs3) v w4) $ await ! tt $
         pick ! (λ r4. pick ! (λ zs4. learn ! (λ e4. split ! $
         land ! (from ! (stop !)) (store ! 27 refl (unit-typed w4 (e4 .0))) $ split ! $ move ! (1 ∷ []) $ split ! $ move ! (1 ∷ []) $ drop ! $
         move ! (2 ∷ []) $ split ! $
         -- the tally is back, and then the slice
-        move ! (3 ∷ []) $ lft-end ! tt $ move ! (0 ∷ 4 ∷ 1 ∷ []) $ use3 W (later (given (Fits r4) (‵ (cell l₁₂ r4))))
-        (local-back 𝓤 H A W (ν4 ∷ []) l₁₂ γ4 r4) $ await ! tt $ learn ! (λ fits4.
-        -- [0: _12; 1: fin; 2: tok; 3: _25; 5: _24; 7: _23; 9: _22; 11: _21; 13: _20; 15: _19; 17: _18; 19: _17; 21: _16; 23: _15; 25: _14; 27: _13;
-        --   30: _11; 32: _10; 34: _9; 36: _8; 38: _7; 40: _6; 42: _5; 44: _4; 46: _3; 48: _2; 50: _1; 52: _0]
+        move ! (3 ∷ []) $ lft-end ! tt $ move ! (0 ∷ 4 ∷ 1 ∷ []) $ use3 W (later (given (Fits r4) (‵ (cell l₈ r4))))
+        (local-back 𝓤 H A W (ν4 ∷ []) l₈ γ4 r4) $ await ! tt $ learn ! (λ fits4.
+        -- [0: _8; 1: fin; 2: tok; 3: _22; 5: _21; 7: _20; 9: _19; 11: _18; 13: _17; 15: _16; 17: _15; 19: _14; 21: _13; 23: _12; 25: _11; 27: _10; 29: _9;
+        --   32: _7; 34: _6; 36: _5; 38: _4; 40: _3; 42: _2; 44: _1; 46: _0]
         assigns ! (of-opd ! (load ! (from ! (stop !)) (look ! 0 refl))) (from ! (stop !))
-        (init ! 52 refl (LL.lawful T.the-type T′.the-laws 𝓤 H A W .typed r4 _ fits4 .0)) $
-        returns ! (look ! 52 refl) $
+        (init ! 46 refl (LL.lawful T.the-type T′.the-laws 𝓤 H A W .typed r4 _ fits4 .0)) $
+        returns ! (look ! 46 refl) $
         forget ! 3 refl $ forget ! 5 refl $ forget ! 7 refl $ forget ! 9 refl $ forget ! 11 refl $ forget ! 13 refl $ forget ! 15 refl $ forget ! 17 refl $
-        forget ! 19 refl $ forget ! 21 refl $ forget ! 23 refl $ forget ! 25 refl $ forget ! 27 refl $ forget ! 0 refl $ forget ! 30 refl $
+        forget ! 19 refl $ forget ! 21 refl $ forget ! 23 refl $ forget ! 25 refl $ forget ! 27 refl $ forget ! 29 refl $ forget ! 0 refl $
         forget ! 32 refl $ forget ! 34 refl $ forget ! 36 refl $ forget ! 38 refl $ forget ! 40 refl $ forget ! 42 refl $ forget ! 44 refl $
-        forget ! 46 refl $ forget ! 48 refl $ forget ! 50 refl $ forget ! 52 refl $
-        move ! (52 ∷ 53 ∷ []) $ free1 ! $ move ! (50 ∷ 51 ∷ []) $ free1 ! $ move ! (48 ∷ 49 ∷ []) $ free1 ! $ move ! (46 ∷ 47 ∷ []) $ free1 ! $
-        move ! (44 ∷ 45 ∷ []) $ free1 ! $ move ! (42 ∷ 43 ∷ []) $ free1 ! $ move ! (40 ∷ 41 ∷ []) $ free1 ! $ move ! (38 ∷ 39 ∷ []) $ free1 ! $
-        move ! (36 ∷ 37 ∷ []) $ free1 ! $ move ! (34 ∷ 35 ∷ []) $ free1 ! $ move ! (32 ∷ 33 ∷ []) $ free1 ! $ move ! (30 ∷ 31 ∷ []) $ free1 ! $
-        move ! (0 ∷ 29 ∷ []) $ free1 ! $ move ! (26 ∷ 27 ∷ []) $ free1 ! $ move ! (24 ∷ 25 ∷ []) $ free1 ! $ move ! (22 ∷ 23 ∷ []) $ free1 ! $
-        move ! (20 ∷ 21 ∷ []) $ free1 ! $ move ! (18 ∷ 19 ∷ []) $ free1 ! $ move ! (16 ∷ 17 ∷ []) $ free1 ! $ move ! (14 ∷ 15 ∷ []) $ free1 ! $
-        move ! (12 ∷ 13 ∷ []) $ free1 ! $ move ! (10 ∷ 11 ∷ []) $ free1 ! $ move ! (8 ∷ 9 ∷ []) $ free1 ! $ move ! (6 ∷ 7 ∷ []) $ free1 ! $
-        move ! (4 ∷ 5 ∷ []) $ free1 ! $ move ! (2 ∷ 3 ∷ []) $ free1 ! $ free0 ! $
+        forget ! 46 refl $
+        move ! (46 ∷ 47 ∷ []) $ free1 ! $ move ! (44 ∷ 45 ∷ []) $ free1 ! $ move ! (42 ∷ 43 ∷ []) $ free1 ! $ move ! (40 ∷ 41 ∷ []) $ free1 ! $
+        move ! (38 ∷ 39 ∷ []) $ free1 ! $ move ! (36 ∷ 37 ∷ []) $ free1 ! $ move ! (34 ∷ 35 ∷ []) $ free1 ! $ move ! (32 ∷ 33 ∷ []) $ free1 ! $
+        move ! (0 ∷ 31 ∷ []) $ free1 ! $ move ! (28 ∷ 29 ∷ []) $ free1 ! $ move ! (26 ∷ 27 ∷ []) $ free1 ! $ move ! (24 ∷ 25 ∷ []) $ free1 ! $
+        move ! (22 ∷ 23 ∷ []) $ free1 ! $ move ! (20 ∷ 21 ∷ []) $ free1 ! $ move ! (18 ∷ 19 ∷ []) $ free1 ! $ move ! (16 ∷ 17 ∷ []) $ free1 ! $
+        move ! (14 ∷ 15 ∷ []) $ free1 ! $ move ! (12 ∷ 13 ∷ []) $ free1 ! $ move ! (10 ∷ 11 ∷ []) $ free1 ! $ move ! (8 ∷ 9 ∷ []) $ free1 ! $
+        move ! (6 ∷ 7 ∷ []) $ free1 ! $ move ! (4 ∷ 5 ∷ []) $ free1 ! $ move ! (2 ∷ 3 ∷ []) $ free1 ! $ free0 ! $
         keep ! (1 ∷ 0 ∷ []) $ by ! (exits r4 zs4 (at-exit h₀ l x ok room r1 zs1 (e1 .1 .0) (e1 .1 .1) r2 zs2 (e2 .1 .0) (e2 .1 .1) r3 zs3 (e3 .1 .0)
         (e3 .1 .1) r4 zs4 (e4 .1 .0) (e4 .1 .1)) fits4 ((e4 .1 .1) ∙ ((e3 .1 .1) ∙
-        ((e2 .1 .1) ∙ (e1 .1 .1)))))))))))))))))))))))))))))))))))))))))))))))))))))))))))))))))
+        ((e2 .1 .1) ∙ (e1 .1 .1))))))))))))))))))))))))))))))))))))))))))))))))))))))))))))))
 
 module _ {M : Type 1} (𝓤 : URA M) (H : Heap 𝓤) (A : Atoms 𝓤) (W : Given 𝓤 H A) (mem : Memory → SProp 𝓤) (run : Routine → Fun 𝓤) where
   own-walks : (C : Calls 𝓤 H) (Λ : Loops 𝓤 H) → FmC 𝓤 H (W .laws) C → Triple 𝓤 (C #call-1) (Sweep Asks RowsSay 𝓤 H A) →
       Triple 𝓤 (C #call-2) (Sweep Asks ColumnsSay 𝓤 H A) → Walks 𝓤 H A own.ended stayed (WpFn 𝓤 H C Λ code.function) (own.clauses 𝓤 H A mem run)
   own-walks C Λ fm known-1 known-2 = walked 𝓤 H A own.ended stayed (own.clauses 𝓤 H A mem run) (WpFn 𝓤 H C Λ code.function)
-      (λ κs. (
-        LL.vals T.the-type T′.the-laws,
-        (
-          slice-vals,
-          (
-            uint-vals w64,
-            (uint-vals w64, (uint-vals w64, (uint-vals w64, (uint-vals w64, (uint-vals w64, (uint-vals w64, (bool-vals, (bool-vals, tt)))))))),
-          ),
-        ),
-      ))
+      (λ κs.
+      (LL.vals T.the-type T′.the-laws, (slice-vals, (LL.vals P.the-type P′.the-laws, (uint-vals w64, (uint-vals w64, (bool-vals, (bool-vals, tt))))))))
       (λ κs. (
         LL.tells T.the-type T′.the-laws,
-        (
-          mut-slice-tells (named 0) (κs .0) u8,
-          (
-            uint-tells w64,
-            (uint-tells w64, (uint-tells w64, (uint-tells w64, (uint-tells w64, (uint-tells w64, (uint-tells w64, (bool-tells, (bool-tells, tt)))))))),
-          ),
-        ),
+        (mut-slice-tells (named 0) (κs .0) u8, (LL.tells P.the-type P′.the-laws, (uint-tells w64, (uint-tells w64, (bool-tells, (bool-tells, tt)))))),
       ))
       (λ κs qs bounds a g are. needs 𝓤 (Asked (a .0) (a .1 .0 .now) (a .1 .1)) _ (λ ok.
-      walk 𝓤 H A W mem run (κs .0) (qs .0) (a .0) (a .1 .0 .ptr .0) (a .1 .0 .ptr .1) (a .1 .0 .name) (a .1 .0 .now) (a .1 .1) ok (are .0) (
-        are .1 .1 .0 .1,
-        (
-          are .1 .1 .1 .0 .1,
-          (
-            are .1 .1 .1 .1 .0 .1,
-            (are .1 .1 .1 .1 .1 .0 .1, (are .1 .1 .1 .1 .1 .1 .0 .1, (are .1 .1 .1 .1 .1 .1 .1 .0 .1, are .1 .1 .1 .1 .1 .1 .1 .1 .0 .1))),
-          ),
-        ),
-      ) C Λ fm known-1 known-2 (are .1 .0 .0 .1)))
+      walk 𝓤 H A W mem run (κs .0) (qs .0) (a .0) (a .1 .0 .ptr .0) (a .1 .0 .ptr .1) (a .1 .0 .name) (a .1 .0 .now) (a .1 .1) ok (are .0)
+      (are .1 .1 .0, (are .1 .1 .1 .0 .1, are .1 .1 .1 .1 .0 .1)) C Λ fm known-1 known-2 (are .1 .0 .0 .1)))
 
 own-meets : {M : Type 1} (𝓤 : URA M) (H : Heap 𝓤) (A : Atoms 𝓤) → Given 𝓤 H A → (mem : Memory → SProp 𝓤) (run : Routine → Fun 𝓤) (𝓣 : Tables 𝓤 H) →
     Triple 𝓤 (𝓣 .C #call-1) (Sweep Asks RowsSay 𝓤 H A) → Triple 𝓤 (𝓣 .C #call-2) (Sweep Asks ColumnsSay 𝓤 H A)
@@ -387,24 +328,12 @@ own-meets 𝓤 H A W mem run 𝓣 known-1 known-2 =
       (
         goes-gave-slice 𝓤 H A W 1 0 tt (plain (λ _. u8)),
         (
-          goes-none 𝓤 H A W 1 (λ _. usize) yes (λ κs y g. refl),
+          goes-none 𝓤 H A W 1 (λ _. P.the-row) yes (λ κs y g. refl),
           (
             goes-none 𝓤 H A W 1 (λ _. usize) yes (λ κs y g. refl),
             (
               goes-none 𝓤 H A W 1 (λ _. usize) yes (λ κs y g. refl),
-              (
-                goes-none 𝓤 H A W 1 (λ _. usize) yes (λ κs y g. refl),
-                (
-                  goes-none 𝓤 H A W 1 (λ _. usize) yes (λ κs y g. refl),
-                  (
-                    goes-none 𝓤 H A W 1 (λ _. usize) yes (λ κs y g. refl),
-                    (
-                      goes-none 𝓤 H A W 1 (λ _. usize) yes (λ κs y g. refl),
-                      (goes-none 𝓤 H A W 1 (λ _. bool) yes (λ κs y g. refl), (goes-none 𝓤 H A W 1 (λ _. bool) yes (λ κs y g. refl), tt)),
-                    ),
-                  ),
-                ),
-              ),
+              (goes-none 𝓤 H A W 1 (λ _. bool) yes (λ κs y g. refl), (goes-none 𝓤 H A W 1 (λ _. bool) yes (λ κs y g. refl), tt)),
             ),
           ),
         ),

@@ -33,7 +33,8 @@ sub-y c = search needs
 
 -- a turn's line is within the plane
 fits : (c : tie.In-loop Inv-loop μ-loop)
-    → (c .before .before .before .args .width ≤ c .before .loop .at) × (c .before .loop .at ≤ c .before .before .before .args .width * c .before .before .before .args .height)
+    → let a = c .before .before .before .args in
+    (a .width ≤ c .before .loop .at) × (c .before .loop .at ≤ a .width * a .height)
 fits c = up-fits (c .before .loop .inv) (c .loop-test .taken)
 
 sub-at : tie.Need-sub-at Inv-loop μ-loop

@@ -41,7 +41,8 @@ loop-again c =
     let pre = c .before .before .before .pre in
     let i = c .before .before .before .args .from + lp .x in (
       omega arith,
-      row-more _ _ _ (lp .x) _ (lp .ws) (lp .inv .1) (omega arith) (row-apart _ _ _ (lp .x) i (lp .ws) (lp .inv .1) (pre .2) (lp .inv .0) (omega arith) (omega arith)),
+      row-more _ _ _ (lp .x) _ (lp .ws) (lp .inv .1) (omega arith)
+          (row-apart _ _ _ (lp .x) i (lp .ws) (lp .inv .1) (pre .2) (lp .inv .0) (omega arith) (omega arith)),
     )
 
 same-length : tie.Need-same-length Inv-loop μ-loop

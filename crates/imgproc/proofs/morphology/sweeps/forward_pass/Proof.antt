@@ -26,7 +26,9 @@ add-next : tie.Need-add-next Inv-loop μ-loop
 add-next c = search needs
 
 -- a turn's line is within the plane
-fits : (c : tie.In-loop Inv-loop μ-loop) → c .before .loop .below + c .before .before .before .args .width ≤ c .before .before .before .args .width * c .before .before .before .args .height
+fits : (c : tie.In-loop Inv-loop μ-loop)
+    → let a = c .before .before .before .args in
+    c .before .loop .below + a .width ≤ a .width * a .height
 fits c = down-fits (c .before .loop .inv) (c .loop-test .taken)
 
 add-below : tie.Need-add-below Inv-loop μ-loop
@@ -64,7 +66,8 @@ loop-again c =
 -- and has one above it
 above : (c : tie.Else1 Inv-loop μ-loop) → c .before .before .before .before .args .width ≤ c .before .before .loop .below
 above c =
-    omega (arith, line-before (c .before .before .before .before .args .width) (c .before .before .loop .next) (after _ _ (c .if1 .left)), c .before .before .loop .inv .here)
+    let lp = c .before .before .loop in
+    omega (arith, line-before (c .before .before .before .before .args .width) (lp .next) (after _ _ (c .if1 .left)), lp .inv .here)
 
 sub-meet-lanes : tie.Need-sub-meet-lanes Inv-loop μ-loop
 sub-meet-lanes c = above (c .before)

@@ -43,7 +43,9 @@ upper : (c : tie.After-high Inv-loop μ-loop)
     c .high .result * a .width + a .width ≤ a .width * a .height
 upper c = let a = c .before .before .before .before .before .args in omega (arith, line-order (a .width) (c .high .result) (a .height) (omega arith))
 
-fits : (c : tie.In-loop Inv-loop μ-loop) → c .before .loop .at + c .before .before .before .args .width ≤ c .before .before .before .args .width * c .before .before .before .args .height
+fits : (c : tie.In-loop Inv-loop μ-loop)
+    → let a = c .before .before .before .args in
+    c .before .loop .at + a .width ≤ a .width * a .height
 fits c = down-fits (c .before .loop .inv) (c .loop-test .taken)
 
 mul-high : tie.Need-mul-high Inv-loop μ-loop

@@ -2,6 +2,7 @@
 use Prim.Native.Nat.{_*_}
 use native.Mathlib.Omega.{arith}
 use Rattle.imgproc.specs.Tallies.{room-part}
+use Rattle.imgproc.specs.Sweeps.{area}
 use Rattle.imgproc.proofs.morphology.Lanes.{apart-within, apart-swap}
 use Rattle.imgproc.proofs.morphology.sweeps.Passes.{lines-swept, passed-room}
 use Rattle.imgproc.proofs.morphology.sweeps.running_extremum_1d.Statement.{statement}
@@ -56,7 +57,7 @@ join-pass-requires c κs =
       left-apart = apart-within _ _ _ _ (apart-swap (pre .target-apart)) (omega arith) (omega arith) (omega arith) (omega arith);
       right-apart = apart-within _ _ _ _ (apart-swap (pre .target-apart)) (omega arith) (omega arith) (omega arith) (omega arith);
       kernel = pre .kernel;
-      room = passed-room (passed-room {l = 2 * (a .width * a .height)} (pre .room) first (omega arith)) second (omega arith);
+      room = passed-room (passed-room {l = 2 * area (a .planes)} (pre .room) first (omega arith)) second (omega arith);
     }
 
 same-length : tie.Need-same-length

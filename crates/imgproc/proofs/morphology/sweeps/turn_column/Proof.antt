@@ -53,7 +53,8 @@ loop-again c =
     let i = start .args .from + (lp .y * start .args .step + start .args .x) in
     let b = inside (c .before) in (
       omega arith,
-      row-more _ _ _ (lp .y) _ (lp .ws) (lp .inv .1) (omega arith) (row-apart _ _ _ (lp .y) i (lp .ws) (lp .inv .1) (start .pre .3) (lp .inv .0) (omega arith) (omega arith)),
+      row-more _ _ _ (lp .y) _ (lp .ws) (lp .inv .1) (omega arith)
+          (row-apart _ _ _ (lp .y) i (lp .ws) (lp .inv .1) (start .pre .3) (lp .inv .0) (omega arith) (omega arith)),
     )
 
 same-length : tie.Need-same-length Inv-loop μ-loop
