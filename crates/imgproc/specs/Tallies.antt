@@ -1,6 +1,6 @@
 -- Names what is said of a tally: n more were counted, n more fit, it stands at n; and proves laws about them. Assumes
--- nothing. Contracts, loops and owners go by these records: nobody but src/morphology/tally.rt, this file and the answers
--- reads the number of a tally.
+-- nothing. Contracts, loops and owners go by these records: nobody but src/morphology/tally.rt, this file and the
+-- answers reads the number of a tally.
 use Prim.Native.Nat.{ℕ, _+_, _^_, _≤_, _<_}
 use mathlib.Core.Path.{_≡_}
 use native.Mathlib.Omega.{arith}

@@ -30,8 +30,11 @@ cast-result : tie.Need-cast-result
 cast-result c = search needs
 
 -- the quotient, by the denominator at hand
-value : (c : tie.After-row-known) → c .before .before .args .source * c .before .before .args .config .«target_luma» / c .before .if1 .denominator ≡ c .before .before .args .source * c .before .before .args .config .«target_luma» / max (c .before .before .args .background) (c .before .before .args .config .«denominator_floor»)
-value c = ap (λ (n : ℕ). c .before .before .args .source * c .before .before .args .config .«target_luma» / n) (raised (c .before))
+value : (c : tie.After-row-known)
+    → let a = c .before .before .args in
+    a .source * a .config .«target_luma» / c .before .if1 .denominator
+    ≡ a .source * a .config .«target_luma» / max (a .background) (a .config .«denominator_floor»)
+value c = let a = c .before .before .args in ap (λ (n : ℕ). a .source * a .config .«target_luma» / n) (raised (c .before))
 
 returns : tie.Need-returns
 unfolding quotient
