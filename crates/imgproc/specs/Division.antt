@@ -40,18 +40,18 @@ division =
 
 -- ---- inside: what the parts of an accepted call ask and leave
 
--- n pixels from `from` on and n backgrounds from `at` on, apart, which are to be divided
+-- what `divide_plane` asks: n pixels from `from` on and n backgrounds from `at` on, apart
 pub record PlaneReady (d : BackgroundDivideConfig) (from at n : ℕ) (ws : List ℕ) : Type 0 where
   pub floor : 0 < d .«denominator_floor»
   pub pixels : from + n ≤ length ws
   pub backgrounds : at + n ≤ length ws
   pub apart : Apart from n at n
 
--- each background replaced by the quotient of its pixel, and nothing else changed
+-- what it leaves: each background is replaced by the quotient of its pixel, and nothing else changes
 abbrev pub PlaneDivided : BackgroundDivideConfig → ℕ → ℕ → ℕ → List ℕ → List ℕ → Type 0
 PlaneDivided d from at n ws ws′ = Rowed at n (λ i. quotient d (getD ws (from + i) 0) (getD ws (at + i) 0)) ws ws′
 
--- a picture that is packed into the first plane of the workspace, closed and divided in the second
+-- what `flatten` asks, and leaves: the picture, packed into the first plane, is closed and divided in the second
 pub record FlattenReady (tally : Tally) (src : List ℕ) (g : Geometry) (d : BackgroundDivideConfig) (ws : List ℕ)
     : Type 0 where
   pub from : Kept (length src) g
@@ -66,7 +66,7 @@ pub record Flattened (tally : Tally) (src : List ℕ) (g : Geometry) (d : Backgr
   pub counted : Raised tally (2 * sweepWalks (d .«structuring_element») (g .width) (g .height)) raised
   pub long : length ws′ ≡ length ws
 
--- what the work of an accepted call asks; what it leaves is `Works` of Calls
+-- what `divide_picture`, the work of an accepted call, asks; what it leaves is `Works` of Calls
 pub record DivideReady (lent : Loan BackgroundDivideConfig) : Type 0 where
   pub pair : Paired (length (lent .src)) (lent .source) (length (lent .dst)) (lent .target)
   pub kernel : 0 < lent .settings .«structuring_element»

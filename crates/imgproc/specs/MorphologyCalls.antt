@@ -62,7 +62,7 @@ closing = morphology Close
 
 -- ---- inside: what the parts of an accepted call ask and leave
 
--- an operation from the first plane of the workspace to the second
+-- what `operate` asks, and leaves: an operation from the first plane of the workspace to the second
 pub record OperateReady (tally : Tally) (d : List ℕ) (k w h : ℕ) : Type 0 where
   pub fits : 6 * (w * h) ≤ length d
   pub kernel : 0 < k
@@ -75,7 +75,7 @@ pub record Operated (operation : Operation) (tally : Tally) (d : List ℕ) (k w 
   pub counted : Raised tally (operationWalks operation k w h) raised
   pub long : length d′ ≡ length d
 
--- the same with a tally of its own
+-- what `count` asks, and leaves: the same with a tally of its own
 pub record CountReady (d : List ℕ) (k w h : ℕ) : Type 0 where
   pub fits : 6 * (w * h) ≤ length d
   pub kernel : 0 < k
@@ -87,7 +87,7 @@ pub record Counts (operation : Operation) (d : List ℕ) (k w h : ℕ) (raised :
   pub counted : Stands raised (operationWalks operation k w h)
   pub long : length d′ ≡ length d
 
--- what the work of an accepted call asks; what it leaves is `Works` of Calls
+-- what `run`, the work of an accepted call, asks; what it leaves is `Works` of Calls
 pub record RunReady (lent : Loan ℕ) : Type 0 where
   pub pair : Paired (length (lent .src)) (lent .source) (length (lent .dst)) (lent .target)
   pub kernel : 0 < lent .settings

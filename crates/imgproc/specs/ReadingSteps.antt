@@ -33,7 +33,7 @@ use Rattle.imgproc.specs.Reading.{
   marksFrom,
 }
 
--- the opened picture, packed, its skips as bytes, and its tables: what a judgement goes by
+-- what `judge` goes by: the opened picture, packed, its skips as bytes, and its tables
 pub record JudgeReady (o : List ℕ) (g : Geometry) (sk ws : List ℕ) (at : ℕ) (s : ReadingConfig) : Type 0 where
   pub tables : Ready (record { src = o; source = g; workspace = ws; at = at; settings = s .sauvola })
   pub tight : g .stride ≡ g .width
@@ -48,7 +48,8 @@ pub record Room (j : Judged) (n : ℕ) : Type 0 where
   pub light : j .light + n < 2 ^ 64
   pub skipped : j .skipped + n < 2 ^ 64
 
--- the first n pixels of row y of the opened picture o judged: each byte, and each count raised by the pixels so judged
+-- the first n pixels of row y of the opened picture o are judged: each has its byte, and each count is raised by the
+-- pixels so judged
 pub record PixelsJudged (before : Judged) (s : ReadingConfig) (g : Geometry) (o : List ℕ) (y n : ℕ)
     (after : Judged) (out : List ℕ) : Type 0 where
   pub each : (x : ℕ) → x < n → getD out x 0 ≡ byteOf (s .sauvola) (judgedOver s (g .width) (g .height) o x y)
@@ -56,16 +57,16 @@ pub record PixelsJudged (before : Judged) (s : ReadingConfig) (g : Geometry) (o 
   pub light : after .light ≡ before .light + walk (λ x. isLight (judgedOver s (g .width) (g .height) o x y)) n
   pub skipped : after .skipped ≡ before .skipped + walk (λ x. isSkipped (judgedOver s (g .width) (g .height) o x y)) n
 
--- and the whole row
+-- what `judge_row` leaves: the whole row is judged
 abbrev pub RowJudged : Judged → ReadingConfig → Geometry → List ℕ → ℕ → Judged → List ℕ → Type 0
 RowJudged before s g o y after out = PixelsJudged before s g o y (g .width) after out
 
--- the packed picture of the bytes of the judgements over o
+-- the packed picture of the bytes of the judgements over the opened picture o
 unfoldable pub markedOver : ReadingConfig → ℕ → ℕ → List ℕ → List ℕ
 unfolding judgedOver
 markedOver s w h o = plane w h (λ x y. byteOf (s .sauvola) (judgedOver s w h o x y))
 
--- every pixel judged: the rows of the destination, and the three counts
+-- what `judge_picture` leaves: every pixel is judged, in the rows of the destination and in the three counts
 pub record PictureJudged (s : ReadingConfig) (g : Geometry) (o dst : List ℕ) (target : Geometry)
     (j : Judged) (dst′ : List ℕ) : Type 0 where
   pub leaves : dst′ ≡ paintedOn dst target (markedOver s (g .width) (g .height) o)
@@ -74,7 +75,7 @@ pub record PictureJudged (s : ReadingConfig) (g : Geometry) (o dst : List ℕ) (
   pub skipped :
       j .skipped ≡ pixels (g .width) (g .height) (λ x y. isSkipped (judgedOver s (g .width) (g .height) o x y))
 
--- a picture flattened and opened in the workspace
+-- what `flatten_and_open` asks, and leaves: the opened picture in the first plane of the workspace
 pub record OpenReady (tally : Tally) (src : List ℕ) (g : Geometry) (s : ReadingConfig) (ws : List ℕ) : Type 0 where
   pub from : Kept (length src) g
   pub element : 0 < s .division .«structuring_element»
@@ -93,7 +94,7 @@ pub record Opened (tally : Tally) (src : List ℕ) (g : Geometry) (s : ReadingCo
       raised
   pub long : length ws′ ≡ length ws
 
--- the skips of the opened picture, which stands packed at the workspace's start, written from `at` on
+-- what `mark_tiles` asks, and leaves: the opened picture stands packed at the workspace's start, its skips from `at` on
 pub record MarkReady (g : Geometry) (s : ReadingConfig) (at : ℕ) (bytes u64s : List ℕ) : Type 0 where
   pub layout : Kept (g .width * g .height) g
   pub tight : g .stride ≡ g .width
@@ -111,7 +112,8 @@ pub record Marks (g : Geometry) (s : ReadingConfig) (at : ℕ) (bytes u64s bytes
   pub bytes-long : length bytes′ ≡ length bytes
   pub u64s-long : length u64s′ ≡ length u64s
 
--- the opened picture and its marks stand in the byte workspace, and the u64 workspace has room for the tables
+-- what `judge_picture` asks: the opened picture and its skips stand in the byte workspace, and the u64 workspace has
+-- room for the tables
 pub record JudgeRoom (g : Geometry) (s : ReadingConfig) (at : ℕ) (bytes u64s : List ℕ) : Type 0 where
   pub marks : MarkReady g s at bytes u64s
   pub skips :
@@ -129,7 +131,7 @@ pub record Usable (s : ReadingConfig) : Type 0 where
   pub tile-height : 0 < s .grid .«tile_height»
   pub sauvola : InRange (s .sauvola)
 
--- what the work of an accepted reading asks
+-- what `read_picture`, the work of an accepted reading, asks
 pub record ReadReady (lent : ReadingLent) : Type 0 where
   pub pair : Paired (length (lent .src)) (lent .source) (length (lent .dst)) (lent .target)
   pub settings : Usable (lent .settings)

@@ -88,7 +88,7 @@ pairConditions srcLen src dstLen dst =
     viewConditions dstLen dst then
     refusedIf (not (eqb (src .width) (dst .width) && eqb (src .height) (dst .height))) DimensionMismatch
 
--- a kernel is odd and at least 3
+-- a kernel is bad where it is below 3 or even
 abbrev pub badKernel : ℕ → Bool
 badKernel k = ltb k 3 || eqb (k % 2) 0
 

@@ -9,7 +9,7 @@ use Rattle.image.specs.Layout.{Kept, sideLimit}
 use Rattle.image.specs.Plane.{pixel, picture}
 use Rattle.imgproc.specs.declared.threshold.SauvolaConfig.{SauvolaConfig}
 use Rattle.imgproc.specs.Refusals.{tableEntries}
-use Rattle.imgproc.specs.Calls.{Loan}
+use Rattle.imgproc.specs.Calls.{Loan, Paired}
 use Rattle.imgproc.specs.Sums.{squared, boxSum}
 
 -- the most entries of a table
@@ -75,10 +75,7 @@ pub record RowsReady (t : Tabled) (dst : List ℕ) (target : Geometry) : Type 0 
 -- `binarize` asks that both pictures lie in their slices with equal sides, that the settings are accepted, and that
 -- both tables have room
 pub record BinarizeReady (lent : Loan SauvolaConfig) : Type 0 where
-  pub from : Kept (length (lent .src)) (lent .source)
-  pub to : Kept (length (lent .dst)) (lent .target)
-  pub wide : lent .source .width ≡ lent .target .width
-  pub high : lent .source .height ≡ lent .target .height
+  pub pair : Paired (length (lent .src)) (lent .source) (length (lent .dst)) (lent .target)
   pub settings : InRange (lent .settings)
   pub fits : tableEntries (lent .source .width) (lent .source .height) ≤ length (lent .workspace)
 

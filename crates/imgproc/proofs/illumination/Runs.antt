@@ -27,8 +27,8 @@ use Rattle.imgproc.proofs.Serving.{unpacked-works}
 use Rattle.imgproc.proofs.morphology.Runs.{firstToSecond, twice-ready}
 
 -- ---- packed, closed, divided
-module _ (tally : Tally) (src : List ℕ) (g : Geometry) (d : BackgroundDivideConfig) (ws : List ℕ) (ready : FlattenReady tally src g d ws)
-    (r : Answer Bare) (first : List ℕ) (pack : Packs src g 0 ws r first) where
+module _ {tally : Tally} {src : List ℕ} {g : Geometry} {d : BackgroundDivideConfig} {ws : List ℕ} (ready : FlattenReady tally src g d ws)
+    {r : Answer Bare} {first : List ℕ} (pack : Packs src g 0 ws r first) where
   plane : (length first ≡ length ws) × (part 0 (g .width * g .height) first ≡ picture src g)
   plane = packs-plane (ready .from) (omega (arith, ready .fits)) pack
 
@@ -40,7 +40,7 @@ module _ (tally : Tally) (src : List ℕ) (g : Geometry) (d : BackgroundDivideCo
     room = ready .room;
   })
 
-  module _ (raised : Tally) (second : List ℕ)
+  module _ {raised : Tally} {second : List ℕ}
       (close : TwiceMorphed closed tally first (firstToSecond (g .width) (g .height)) (d .«structuring_element») raised second) where
     close-long : length second ≡ length ws
     close-long = close .kept .long ∙ plane .0
@@ -52,16 +52,13 @@ module _ (tally : Tally) (src : List ℕ) (g : Geometry) (d : BackgroundDivideCo
         ∙ sym (getD-part 0 (g .width * g .height) first (omega (arith, plane .0, ready .fits)) i l)
         ∙ ap (λ (p : List ℕ). getD p i 0) (plane .1)
 
-    background-at :
-        (i : ℕ)
-        → i < g .width * g .height
+    background-at : (i : ℕ) → i < g .width * g .height
         → getD second (g .width * g .height + i) 0 ≡ getD (closed (d .«structuring_element») (g .width) (g .height) (picture src g)) i 0
     background-at i l =
         sym (getD-part (g .width * g .height) (g .width * g .height) second (omega (arith, close-long, ready .fits)) i l)
         ∙ ap (λ (p : List ℕ). getD p i 0) (close .leaves ∙ ap (closed (d .«structuring_element») (g .width) (g .height)) (plane .1))
 
-    pub flattened :
-        {third : List ℕ}
+    pub flattened : {third : List ℕ}
         → PlaneDivided d 0 (g .width * g .height) (g .width * g .height) second third
         → Flattened tally src g d ws raised third
     unfolding divided dividedBy

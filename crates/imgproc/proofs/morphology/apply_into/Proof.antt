@@ -1,7 +1,7 @@
 -- `apply_into` meets its contract: each way out is one law of the check. Assumes nothing.
 use borrow.Author.Needs.{needs}
 use native.Mathlib.Omega.{arith}
-use mathlib.Core.Path.{ap, _∙_}
+use mathlib.Core.Path.{_∙_}
 use lib.ListN.{length}
 use denote.Ref.{now}
 use Rattle.image.specs.LayoutLaws.{area-small}

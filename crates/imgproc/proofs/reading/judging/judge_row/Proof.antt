@@ -1,7 +1,7 @@
 -- `judge_row` judges the pixels of a row one after another: the first `next` hold their bytes and are counted. Assumes nothing.
 use borrow.Author.Needs.{needs}
 use native.Mathlib.Omega.{arith}
-use Prim.Native.Nat.{ℕ, _+_, _-_, _≤_, _<_}
+use Prim.Native.Nat.{ℕ, _-_, _≤_, _<_}
 use mathlib.Core.Path.{_≡_, refl, sym, _∙_, subst}
 use lib.ListN.{length, length-set}
 use denote.Ref.{now}
