@@ -6,8 +6,7 @@ use native.Mathlib.Omega.{arith}
 use lib.ListN.{length}
 use Rattle.image.specs.declared.Geometry.{Geometry}
 use Rattle.image.specs.Answers.{Answer, Bare, accepted, refused}
-use Rattle.image.specs.Plane.{painted, paintedOn, picture, part}
-use Rattle.image.specs.Views.{painted-sides}
+use Rattle.image.specs.Plane.{paintedOn, picture, part}
 use Rattle.image.specs.Copy.{Unpacks}
 use Rattle.image.specs.CopyLaws.{unpacks-done}
 use Rattle.imgproc.specs.declared.ImgProcError.{ImgProcError}
@@ -42,14 +41,14 @@ module _ {S A : Type 0} {operator : Operator S A} {lent : Loan S} where
   refused-call e c = record { answers = rw (c .is); leaves = rw (c .is); keeps = rw (c .is) refl }
 
   -- accepted, and made by the layouts that were opened
-  made-by : {g h : Geometry} {values : A} {left : Left}
+  pub served : {g h : Geometry} {values : A} {left : Left}
       → Pair (length (lent .src)) (lent .source) (length (lent .dst)) (lent .target) g h
       → first (operator .own (lent .settings) g (length (lent .workspace))) ≡ Accepted
       → values ≡ operator .values (lent .settings) (g .width) (g .height)
       → left .dst ≡ madeOf operator (openedAs lent g h)
       → length (left .workspace) ≡ length (lent .workspace)
       → Serves operator lent (accepted values) left
-  made-by p own-taken answers made long =
+  served p own-taken answers made long =
       let q = past p {rest = λ g. operator .own (lent .settings) g (length (lent .workspace))} own-taken .is in
       let same = as-lent lent (source-same p) (target-same p) in
       record {
@@ -58,18 +57,6 @@ module _ {S A : Type 0} {operator : Operator S A} {lent : Loan S} where
         keeps = rw q long;
       }
 
-  -- the same where the picture is painted by the sides of the source
-  pub served : {g h : Geometry} {values : A} {left : Left}
-      → Pair (length (lent .src)) (lent .source) (length (lent .dst)) (lent .target) g h
-      → first (operator .own (lent .settings) g (length (lent .workspace))) ≡ Accepted
-      → values ≡ operator .values (lent .settings) (g .width) (g .height)
-      → left .dst
-      ≡ painted (operator .make (lent .settings) (g .width) (g .height) (picture (lent .src) g)) (g .width) (g .height) (h .stride) (lent .dst)
-      → length (left .workspace) ≡ length (lent .workspace)
-      → Serves operator lent (accepted values) left
-  served {h = h} p own-taken answers made =
-      made-by p own-taken answers (made ∙ painted-sides (lent .dst) h _ (sym (p .wide)) (sym (p .high)))
-
 module _ {S : Type 0} {operator : Operator S ℕ} {lent : Loan S} where
   -- accepted, and worked by the layouts that were opened: the tally is what it answers
   pub worked : {g h : Geometry} {raised : Tally} {left : Left}
@@ -77,7 +64,7 @@ module _ {S : Type 0} {operator : Operator S ℕ} {lent : Loan S} where
       → first (operator .own (lent .settings) g (length (lent .workspace))) ≡ Accepted
       → Works operator (openedAs lent g h) raised left
       → Serves operator lent (accepted (raised .comparisons)) left
-  worked p own-taken w = made-by p own-taken (w .counted .at) (w .leaves) (w .long)
+  worked p own-taken w = served p own-taken (w .counted .at) (w .leaves) (w .long)
 
   -- the work of a call whose picture was made in the second plane of its workspace, and unpacked
   pub unpacked-works : {raised : Tally} {ws dst : List ℕ} {r : Answer Bare}

@@ -9,7 +9,7 @@ use Rattle.image.specs.Layout.{Kept, sideLimit}
 use Rattle.image.specs.Plane.{pixel, picture}
 use Rattle.imgproc.specs.declared.threshold.SauvolaConfig.{SauvolaConfig}
 use Rattle.imgproc.specs.Refusals.{tableEntries}
-use Rattle.imgproc.specs.Calls.{Loan}
+use Rattle.imgproc.specs.Calls.{Loan, Paired}
 use Rattle.imgproc.specs.Sums.{squared, boxSum}
 
 -- the most entries of a table
@@ -68,17 +68,12 @@ pub record RowReady (t : Tabled) (y : ℕ) (out : List ℕ) : Type 0 where
 -- `binarize_rows` asks that the destination lies in its slice, and has the picture's sides
 pub record RowsReady (t : Tabled) (dst : List ℕ) (target : Geometry) : Type 0 where
   pub ready : Ready t
-  pub to : Kept (length dst) target
-  pub wide : t .source .width ≡ target .width
-  pub high : t .source .height ≡ target .height
+  pub pair : Paired (length (t .src)) (t .source) (length dst) target
 
 -- `binarize` asks that both pictures lie in their slices with equal sides, that the settings are accepted, and that
 -- both tables have room
 pub record BinarizeReady (lent : Loan SauvolaConfig) : Type 0 where
-  pub from : Kept (length (lent .src)) (lent .source)
-  pub to : Kept (length (lent .dst)) (lent .target)
-  pub wide : lent .source .width ≡ lent .target .width
-  pub high : lent .source .height ≡ lent .target .height
+  pub pair : Paired (length (lent .src)) (lent .source) (length (lent .dst)) (lent .target)
   pub settings : InRange (lent .settings)
   pub fits : tableEntries (lent .source .width) (lent .source .height) ≤ length (lent .workspace)
 

@@ -3,9 +3,8 @@ use borrow.Author.Needs.{needs}
 use mathlib.Core.Path.{refl, sym, _∙_}
 use lib.ListN.{length}
 use denote.Ref.{now}
-use Rattle.image.specs.Views.{painted-sides}
 use Rattle.imgproc.specs.declared.ImgProcError.the-variants.{Image, DimensionMismatch}
-use Rattle.imgproc.proofs.WaysOut.{Pair, pair-of, source-kept, target-kept, ways}
+use Rattle.imgproc.proofs.WaysOut.{Pair, pair-of, source-kept, paired, ways}
 use Rattle.imgproc.proofs.Serving.{refused-call, served}
 use Rattle.imgproc.proofs.Answers.{room-here}
 use Rattle.imgproc.proofs.threshold.sauvola_into.Statement.{statement}
@@ -82,7 +81,7 @@ binarize-requires c κs =
     let r = t .before .before in
     let p = pair (r .before) in
     let room = room-here p (r .check-room .ensures) (t .enum-told3 .given .1) in
-    record { from = source-kept p; to = target-kept p; wide = p .wide; high = p .high; settings = room .0; fits = room .1 }
+    record { pair = paired p; settings = room .0; fits = room .1 }
 
 same-length : tie.Need-same-length
 same-length c = search needs
@@ -95,10 +94,7 @@ returns-6 c =
     let b = c .before .before .before .before in
     let t = b .before .before .before in
     let r = t .before .before in
-    let p = pair (r .before) in
-    served p (sym (r .check-room .ensures) ∙ t .enum-told3 .given .1) refl
-    (b .binarize .ensures ∙ sym (painted-sides (now (start (r .before) .args .dst)) _ _ (sym (p .wide)) (sym (p .high))))
-    (b .binarize .kept .1 .1 .1 .1 .1 .0)
+    served (pair (r .before)) (sym (r .check-room .ensures) ∙ t .enum-told3 .given .1) refl (b .binarize .ensures) (b .binarize .kept .1 .1 .1 .1 .1 .0)
 
 pub sauvola-into-spec : {M : Type 1} → statement M
 sauvola-into-spec =
