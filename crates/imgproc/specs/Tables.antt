@@ -68,9 +68,7 @@ pub record RowReady (t : Tabled) (y : ℕ) (out : List ℕ) : Type 0 where
 -- `binarize_rows` asks that the destination lies in its slice, and has the picture's sides
 pub record RowsReady (t : Tabled) (dst : List ℕ) (target : Geometry) : Type 0 where
   pub ready : Ready t
-  pub to : Kept (length dst) target
-  pub wide : t .source .width ≡ target .width
-  pub high : t .source .height ≡ target .height
+  pub pair : Paired (length (t .src)) (t .source) (length dst) target
 
 -- `binarize` asks that both pictures lie in their slices with equal sides, that the settings are accepted, and that
 -- both tables have room

@@ -2,7 +2,6 @@
 use borrow.Author.Needs.{needs}
 use native.Mathlib.Omega.{arith}
 use mathlib.Core.Path.{sym}
-use denote.Ref.{now}
 use Rattle.imgproc.proofs.reading.Runs.{prefix-long, sized, gather-ready, marked}
 use Rattle.imgproc.proofs.reading.mark_tiles.Statement.{statement}
 use Rattle.imgproc.proofs.reading.mark_tiles.Tie as tie
@@ -17,10 +16,7 @@ slice-aggregate-gather : tie.Need-slice-aggregate-gather
 slice-aggregate-gather c = sym (prefix-long (c .before .before .before .before .pre))
 
 gather-requires : tie.Need-gather-requires
-gather-requires c κs =
-    let e = c .before .before .before .before .before in
-    let a = e .args in
-    gather-ready {g = a .packed} {s = a .config} {bytes = now (a .bytes)} {u64s = now (a .u64s)} (e .pre)
+gather-requires c κs = gather-ready (c .before .before .before .before .before .pre)
 
 write-skips-requires : tie.Need-write-skips-requires
 write-skips-requires c κs =

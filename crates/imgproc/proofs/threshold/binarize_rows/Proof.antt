@@ -30,12 +30,14 @@ start t = t .before .before .before .before .before .before
 
 -- the destination's rows are as wide as the picture
 wide : (s : tie.Start Inv-loop μ-loop) → (0 < s .args .geometry .width) × (s .args .geometry .width ≤ s .args .dst-geometry .stride)
-wide s = (s .pre .ready .layout .wide, omega (arith, s .pre .to .stride, s .pre .wide))
+wide s = (s .pre .ready .layout .wide, omega (arith, s .pre .pair .to .stride, s .pre .pair .wide))
 
 -- row y of the destination
 within : (t : tie.Then1 Inv-loop μ-loop)
     → t .before .before .loop .y * start t .args .dst-geometry .stride + start t .args .geometry .width ≤ length (now (start t .args .dst))
-within t = let s = start t in row-within-as (s .pre .to) (sym (s .pre .wide)) (sym (s .pre .high)) (t .before .before .loop .y) (t .if1 .taken)
+within t =
+    let s = start t in
+    row-within-as (s .pre .pair .to) (sym (s .pre .pair .wide)) (sym (s .pre .pair .high)) (t .before .before .loop .y) (t .if1 .taken)
 
 fits : (t : tie.Then1 Inv-loop μ-loop)
     → t .before .before .loop .y * start t .args .dst-geometry .stride + start t .args .geometry .width ≤ length (t .before .before .loop .dst)
@@ -104,7 +106,7 @@ returns c =
     let s = c .before .before .before .before .before .before in
     let l = c .before .before .loop in
     rows-done (new s) _ _ _ (now (s .args .dst)) (l .y) (l .inv) (c .if1 .left)
-    ∙ painted-sides (now (s .args .dst)) (s .args .dst-geometry) (new s) (sym (s .pre .wide)) (sym (s .pre .high))
+    ∙ painted-sides (now (s .args .dst)) (s .args .dst-geometry) (new s) (sym (s .pre .pair .wide)) (sym (s .pre .pair .high))
 
 pub binarize-rows-spec : {M : Type 1} → statement M
 binarize-rows-spec =
