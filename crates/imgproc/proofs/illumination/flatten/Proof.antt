@@ -1,8 +1,6 @@
 -- `flatten` packs, closes and divides; the copy is never refused. Assumes nothing.
-use Rattle.image.specs.Copy.{copiedAnswer}
 use mathlib.Core.Logic.{inl}
 use borrow.Author.Needs.{needs}
-use denote.Ref.{now}
 use Rattle.imgproc.proofs.illumination.Runs.{close-ready, flattened}
 use Rattle.imgproc.proofs.illumination.flatten.Statement.{statement}
 use Rattle.imgproc.proofs.illumination.flatten.Tie as tie
@@ -19,10 +17,7 @@ pack-requires c κs = search needs
 close-rect-into-requires : tie.Need-close-rect-into-requires
 close-rect-into-requires c κs =
     let pack = c .before .before .before in
-    let start = pack .before .before .before .before in
-    let a = start .args in
-    close-ready (a .tally) (now (a .src)) (a .geometry) (a .config) (now (a .workspace)) (start .pre)
-    (copiedAnswer (pack .pack .result)) (pack .pack .last .1 .1 .0) (pack .pack .ensures)
+    close-ready (pack .before .before .before .before .pre) (pack .pack .ensures)
 
 divide-plane-requires : tie.Need-divide-plane-requires
 divide-plane-requires c κs = record {
@@ -40,11 +35,7 @@ returns c =
     let divide = c .before .before in
     let close = divide .before .before .before .before in
     let pack = close .before .before .before .before in
-    let start = pack .before .before .before .before in
-    let a = start .args in
-    flattened (a .tally) (now (a .src)) (a .geometry) (a .config) (now (a .workspace)) (start .pre)
-    (copiedAnswer (pack .pack .result)) (pack .pack .last .1 .1 .0) (pack .pack .ensures)
-    (close .close-rect-into .result) (close .close-rect-into .last .1 .0) (close .close-rect-into .ensures) (divide .divide-plane .ensures)
+    flattened (pack .before .before .before .before .pre) (pack .pack .ensures) (close .close-rect-into .ensures) (divide .divide-plane .ensures)
 
 pub flatten-spec : {M : Type 1} → statement M
 flatten-spec =
