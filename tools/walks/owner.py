@@ -190,7 +190,7 @@ def take_back(w, call, places):
 
 
 def made_part(made, named, numbers):
-    """A struct that is made, and that it fits."""
+    """Returns the definition of a struct that is made, and the proof that it fits."""
     name, given = dashed(made.name), named[made.given]
     record = '; '.join(f'{field} = {given} .{of}' for field, of, _ in made.fields)
     fits = paired(f'f{part(i)}' for _, _, i in made.fields)

@@ -49,7 +49,7 @@ def braced(text, start):
 
 
 def fields_of(text, name):
-    """The names of the fields of a struct."""
+    """Returns the names of the fields of a struct."""
     plain = re.sub(r'//.*', '', text)
     found = re.search(rf'\bstruct {name} \{{', plain)
     if not found:

@@ -80,16 +80,16 @@ class Number:
         return f'owned ! {makes} ({term}) _ (refl, {fit}) $ fjoin ! $'
 
     def typed(self, term, fit):
-        """What says that the machine value has its type."""
+        """Returns the term that says that the machine value has its type."""
         return '(tt, tt)' if self.is_bool else f'(tt, record {{ fits = {fit} }})'
 
     def known(self, place):
-        """What says that the parameter fits, out of what a walk is told of it."""
+        """Returns the term that says that the parameter fits, out of what a walk is told of it."""
         return f'{place} .1'
 
 
 class Struct(Number):
-    """The struct that is given by value, whose machine value and what says that it fits are those of `Thin.antt`."""
+    """The type of the struct that is given by value. `Thin.antt` has its machine value, and what says that it fits."""
 
     def __init__(self, rust):
         self.rust, self.denoted, self.row, self.mir = rust, rust, 'P.the-row', 'P′.mir'

@@ -119,7 +119,7 @@ class Walk:
         return text
 
     def parts(self, name, fields):
-        """The fields of a local struct, as the operands of an aggregate."""
+        """Returns the fields of a local struct, as the operands of an aggregate."""
         text = 'no-more !'
         for field in reversed(fields):
             place = f'look-in ! {self.at(name)} (sub ! {field} refl (whole !))'
