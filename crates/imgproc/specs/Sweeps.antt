@@ -228,13 +228,13 @@ pub record TwiceMorphed (made : ℕ → ℕ → ℕ → List ℕ → List ℕ) (
   pub counted : Raised tally (2 * sweepWalks k (p .width) (p .height)) raised
   pub kept : Beside (3 * area p) p d d′
 
--- a turn asks for two planes of `rows` times `columns` apart from each other
-pub record TurnReady (d : List ℕ) (from to rows columns : ℕ) : Type 0 where
+-- a transposition asks for two planes of `rows` times `columns` apart from each other
+pub record TransposeReady (d : List ℕ) (from to rows columns : ℕ) : Type 0 where
   pub source : from + rows * columns ≤ length d
   pub target : to + rows * columns ≤ length d
   pub apart : Apart from (rows * columns) to (rows * columns)
 
 -- it leaves the columns of the plane at `from` as the rows of the plane at `to`
-pub record Turned (d : List ℕ) (from to rows columns : ℕ) (d′ : List ℕ) : Type 0 where
+pub record Transposed (d : List ℕ) (from to rows columns : ℕ) (d′ : List ℕ) : Type 0 where
   pub each : (x y : ℕ) → x < columns → y < rows → lane d′ to rows y x ≡ lane d from columns x y
   pub rest : Outside to (rows * columns) d d′

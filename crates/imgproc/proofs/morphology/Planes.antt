@@ -26,7 +26,7 @@ use Rattle.imgproc.specs.Sweeps.{
   inPlace,
   Beside,
   LinesSwept,
-  Turned,
+  Transposed,
   SweepReady,
   RowsSwept,
   ColumnsSwept,
@@ -44,13 +44,13 @@ use Rattle.imgproc.proofs.morphology.Lanes.{off, apart-within, outside-
 pub off-within : {at n j : ℕ} (a m : ℕ) → Off at n j → at ≤ a → a + m ≤ at + n → Off a m j
 off-within a m p l h = record { off = ⊎-elim (λ s. inl (omega arith)) (λ s. inr (omega arith)) (p .off) }
 
--- ---- a strip: turned, swept as lanes, turned back
+-- ---- a strip: transposed, swept as lanes, transposed back
 -- between, the sweep works on these planes
-abbrev pub turned : Planes → Planes
-turned p = record { from = p .spare; to = p .spare; spare = p .spare + area p; width = p .height; height = p .width }
+abbrev pub transposed : Planes → Planes
+transposed p = record { from = p .spare; to = p .spare; spare = p .spare + area p; width = p .height; height = p .width }
 
-pub strip-swept : {least : Bool} {k : ℕ} {p : Planes} {t r : Tally} {d e f g : List ℕ} → 0 < k → Turned d (p .from) (p .spare) (p .height) (p .width) e
-    → LinesSwept t e (turned p) k least r f → Turned f (p .spare) (p .to) (p .width) (p .height) g → RowsSwept t d p k least r g
+pub strip-swept : {least : Bool} {k : ℕ} {p : Planes} {t r : Tally} {d e f g : List ℕ} → 0 < k → Transposed d (p .from) (p .spare) (p .height) (p .width) e
+    → LinesSwept t e (transposed p) k least r f → Transposed f (p .spare) (p .to) (p .width) (p .height) g → RowsSwept t d p k least r g
 strip-swept {k = k} {p = p} pos there swept back =
     let w = p .width in
     let h = p .height in

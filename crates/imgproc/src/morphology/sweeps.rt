@@ -24,8 +24,8 @@ ghost use Rattle.imgproc.specs.Sweeps.{
   JoinPassed,
   LinesReady,
   LinesSwept,
-  TurnReady,
-  Turned,
+  TransposeReady,
+  Transposed,
   SweepReady,
   RowsSwept,
 };
@@ -211,7 +211,7 @@ pub(crate) fn running_extremum_1d(
 }
 
 // Copies column x of a plane whose rows are `step` long, as a row of `count` samples.
-fn turn_column(ws: &mut [u8], from: usize, x: usize, step: usize, to: usize, count: usize)
+fn transpose_column(ws: &mut [u8], from: usize, x: usize, step: usize, to: usize, count: usize)
     requires { ⌜
         (from + step * count ≤ length (now ws)) × (to + count ≤ length (now ws)) × (x < step) ×
         Apart from (step * count) to count
@@ -225,19 +225,19 @@ fn turn_column(ws: &mut [u8], from: usize, x: usize, step: usize, to: usize, cou
     }
 }
 
-// Turns a plane of `rows` rows of `columns` samples: its columns become the rows of another plane.
-fn turn(ws: &mut [u8], from: usize, to: usize, rows: usize, columns: usize)
-    requires { ⌜ TurnReady (now ws) from to rows columns ⌝ }
-    ensures { λ _. ⌜ Turned (now (ws .entry)) from to rows columns (now (ws .exit)) ⌝ }
+// Transposes a plane of `rows` rows of `columns` samples: its columns become the rows of another plane.
+fn transpose(ws: &mut [u8], from: usize, to: usize, rows: usize, columns: usize)
+    requires { ⌜ TransposeReady (now ws) from to rows columns ⌝ }
+    ensures { λ _. ⌜ Transposed (now (ws .entry)) from to rows columns (now (ws .exit)) ⌝ }
 {
     let mut x = 0;
     while x < columns {
-        turn_column(ws, from, x, columns, to + x * rows, rows);
+        transpose_column(ws, from, x, columns, to + x * rows, rows);
         x += 1;
     }
 }
 
-// So many rows are turned and swept together.
+// So many rows are transposed and swept together.
 const STRIP: usize = 32;
 
 // Chooses how many of the rows that are left make the next strip.
@@ -248,7 +248,7 @@ pub(crate) fn strip_of(left: usize) -> usize
     if left < STRIP { left } else { STRIP }
 }
 
-// Sweeps along each row of a strip: turns its rows to lanes, sweeps these, and turns them back.
+// Sweeps along each row of a strip: transposes its rows to lanes, sweeps these, and transposes them back.
 pub(crate) fn sweep_strip(
     tally: Tally,
     ws: &mut [u8],
@@ -263,15 +263,15 @@ pub(crate) fn sweep_strip(
     let width = planes.width;
     let height = planes.height;
     let lines = spare + width * height;
-    let turned = Planes {
+    let transposed = Planes {
         from: spare,
         to: spare,
         spare: lines,
         width: height,
         height: width,
     };
-    turn(ws, planes.from, spare, height, width);
-    let t = running_extremum_1d(tally, ws, turned, kernel, least);
-    turn(ws, spare, planes.to, width, height);
+    transpose(ws, planes.from, spare, height, width);
+    let t = running_extremum_1d(tally, ws, transposed, kernel, least);
+    transpose(ws, spare, planes.to, width, height);
     t
 }

@@ -1,4 +1,4 @@
--- `sweep_strip` meets its contract: turned, swept as lanes, turned back. Assumes nothing.
+-- `sweep_strip` meets its contract: transposed, swept as lanes, transposed back. Assumes nothing.
 use mathlib.Core.Logic.{inl}
 use native.Mathlib.Omega.{arith}
 use Rattle.imgproc.specs.Tallies.{room-part}
@@ -13,8 +13,8 @@ mul-lines c = omega (arith, c .before .pre .source)
 add-lines : tie.Need-add-lines
 add-lines c = omega (arith, c .before .pre .scratch)
 
-turn-requires : tie.Need-turn-requires
-turn-requires c κs =
+transpose-requires : tie.Need-transpose-requires
+transpose-requires c κs =
     let pre = c .before .before .pre in
     record {
       source = omega arith;
@@ -26,7 +26,7 @@ running-extremum-1d-requires : tie.Need-running-extremum-1d-requires
 running-extremum-1d-requires c κs =
     let first = c .before .before .before in
     let pre = first .before .before .before .pre in
-    let long = first .turn .ensures .rest .long in
+    let long = first .transpose .ensures .rest .long in
     record {
       source = omega arith;
       target = omega arith;
@@ -37,12 +37,12 @@ running-extremum-1d-requires c κs =
       room = room-part (pre .room) (omega arith);
     }
 
-turn-requires-2 : tie.Need-turn-requires-2
-turn-requires-2 c κs =
+transpose-requires-2 : tie.Need-transpose-requires-2
+transpose-requires-2 c κs =
     let swept = c .before .before .before in
     let first = swept .before .before .before .before in
     let pre = first .before .before .before .pre in
-    let long = first .turn .ensures .rest .long in
+    let long = first .transpose .ensures .rest .long in
     let long′ = swept .running-extremum-1d .ensures .kept .long in
     record {
       source = omega arith;
@@ -55,7 +55,7 @@ same-length c =
     let last = c .before .before in
     let swept = last .before .before .before .before in
     let first = swept .before .before .before .before in
-    omega (arith, last .turn2 .ensures .rest .long, swept .running-extremum-1d .ensures .kept .long, first .turn .ensures .rest .long)
+    omega (arith, last .transpose2 .ensures .rest .long, swept .running-extremum-1d .ensures .kept .long, first .transpose .ensures .rest .long)
 
 returns : tie.Need-returns
 returns c =
@@ -63,7 +63,7 @@ returns c =
     let swept = last .before .before .before .before in
     let first = swept .before .before .before .before in
     let start = first .before .before .before in
-    strip-swept (start .pre .kernel) (first .turn .ensures) (swept .running-extremum-1d .ensures) (last .turn2 .ensures)
+    strip-swept (start .pre .kernel) (first .transpose .ensures) (swept .running-extremum-1d .ensures) (last .transpose2 .ensures)
 
 pub sweep-strip-spec : {M : Type 1} → statement M
 sweep-strip-spec =
@@ -71,8 +71,8 @@ sweep-strip-spec =
     (tie.spec
     mul-lines
     add-lines
-    turn-requires
+    transpose-requires
     running-extremum-1d-requires
-    turn-requires-2
+    transpose-requires-2
     same-length
     returns)

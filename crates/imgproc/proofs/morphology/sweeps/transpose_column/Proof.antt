@@ -1,11 +1,11 @@
--- `turn_column` meets its contract: y samples of the column are turned. Assumes nothing.
+-- `transpose_column` meets its contract: y samples of the column are transposed. Assumes nothing.
 use Prim.Native.Nat.{ℕ, _+_, _-_, _*_, _≤_, _<_}
 use native.Mathlib.Omega.{arith}
 use Rattle.imgproc.specs.Sweeps.{lane, Rowed}
 use Rattle.imgproc.proofs.morphology.Lanes.{line-order, row-none, row-more, row-apart, row-all}
 use borrow.Author.Needs.{needs}
-use Rattle.imgproc.proofs.morphology.sweeps.turn_column.Statement.{statement}
-use Rattle.imgproc.proofs.morphology.sweeps.turn_column.Tie as tie
+use Rattle.imgproc.proofs.morphology.sweeps.transpose_column.Statement.{statement}
+use Rattle.imgproc.proofs.morphology.sweeps.transpose_column.Tie as tie
 
 abbrev Inv-loop : tie.InvT-loop
 Inv-loop ws₀ from x step to count y₀ ws y = (y ≤ count) × Rowed to y (λ (j : ℕ). lane ws₀ from step x j) ws₀ ws
@@ -63,8 +63,8 @@ same-length c = c .before .loop .inv .1 .rest .long
 returns : tie.Need-returns Inv-loop μ-loop
 returns c = row-all (c .before .loop .inv .1) (c .before .loop .inv .0) (c .loop-test .left)
 
-pub turn-column-spec : {M : Type 1} → statement M
-turn-column-spec =
+pub transpose-column-spec : {M : Type 1} → statement M
+transpose-column-spec =
     tie.close
     (tie.spec
     Inv-loop

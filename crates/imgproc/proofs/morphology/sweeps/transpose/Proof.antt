@@ -1,4 +1,4 @@
--- `turn` meets its contract: x columns are turned. Assumes nothing.
+-- `transpose` meets its contract: x columns are transposed. Assumes nothing.
 use Prim.Native.Nat.{ℕ, _+_, _-_, _*_, _≤_, _<_}
 use mathlib.Core.Path.{_≡_}
 use native.Mathlib.Omega.{arith}
@@ -6,8 +6,8 @@ use native.Mathlib.Nat.{not-suc-le-zero}
 use Rattle.imgproc.specs.Sweeps.{lane}
 use Rattle.imgproc.proofs.morphology.Lanes.{off, outside-at, apart-within, line-order, Done, done-none, done-more}
 use borrow.Author.Needs.{needs}
-use Rattle.imgproc.proofs.morphology.sweeps.turn.Statement.{statement}
-use Rattle.imgproc.proofs.morphology.sweeps.turn.Tie as tie
+use Rattle.imgproc.proofs.morphology.sweeps.transpose.Statement.{statement}
+use Rattle.imgproc.proofs.morphology.sweeps.transpose.Tie as tie
 
 abbrev Inv-loop : tie.InvT-loop
 Inv-loop ws₀ from to rows columns x₀ ws x =
@@ -25,14 +25,14 @@ fits : (c : tie.In-loop Inv-loop μ-loop)
     c .before .loop .x * a .rows + a .rows ≤ a .rows * a .columns
 fits c = let a = c .before .before .before .args in omega (arith, line-order (a .rows) (c .before .loop .x) (a .columns) (c .loop-test .taken))
 
-mul-turn-column : tie.Need-mul-turn-column Inv-loop μ-loop
-mul-turn-column c = omega (arith, fits (c .before))
+mul-transpose-column : tie.Need-mul-transpose-column Inv-loop μ-loop
+mul-transpose-column c = omega (arith, fits (c .before))
 
-add-turn-column : tie.Need-add-turn-column Inv-loop μ-loop
-add-turn-column c = omega (arith, fits (c .before))
+add-transpose-column : tie.Need-add-transpose-column Inv-loop μ-loop
+add-transpose-column c = omega (arith, fits (c .before))
 
-turn-column-requires : tie.Need-turn-column-requires Inv-loop μ-loop
-turn-column-requires c κs =
+transpose-column-requires : tie.Need-transpose-column-requires Inv-loop μ-loop
+transpose-column-requires c κs =
     let in-loop = c .before in
     let pre = in-loop .before .before .before .pre in
     let f = fits in-loop in
@@ -54,7 +54,7 @@ loop-again c =
     let a = start .args in
     let taken = in-loop .loop-test .taken in (
       omega arith,
-      done-more (lp .x) _ taken (lp .inv .1) (called .turn-column .ensures)
+      done-more (lp .x) _ taken (lp .inv .1) (called .transpose-column .ensures)
           (λ y l.
           let b = line-order (a .columns) y (a .rows) l in
           outside-at _ (lp .inv .1 .rest) (off (a .from + (y * a .columns + lp .x)) (start .pre .apart) (omega arith) (omega arith)))
@@ -69,16 +69,16 @@ returns c =
     let e = c .loop-test .left in
     record { each = λ x y l m. c .before .loop .inv .1 .each y x m (omega arith); rest = c .before .loop .inv .1 .rest }
 
-pub turn-spec : {M : Type 1} → statement M
-turn-spec =
+pub transpose-spec : {M : Type 1} → statement M
+transpose-spec =
     tie.close
     (tie.spec
     Inv-loop
     μ-loop
     loop-holds
-    mul-turn-column
-    add-turn-column
-    turn-column-requires
+    mul-transpose-column
+    add-transpose-column
+    transpose-column-requires
     add-x
     loop-less
     loop-again
