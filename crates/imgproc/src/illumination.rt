@@ -1,4 +1,4 @@
-// Division by the background: a picture divided by its own closing, which takes a smooth shade away.
+// Divides a picture by its background, which is its own closing: that takes a smooth shade away.
 use crate::Check;
 use crate::ImgProcError;
 use crate::morphology::Compared;
@@ -24,6 +24,7 @@ ghost use Rattle.imgproc.specs.Division.{
 ghost use Rattle.imgproc.specs.Calls.{Serves, Works};
 ghost use Rattle.imgproc.specs.MorphologyCalls.{comparedAnswer};
 
+// The settings of a division.
 pub struct BackgroundDivideConfig {
     pub structuring_element: usize,
     pub target_luma: u8,
@@ -31,6 +32,7 @@ pub struct BackgroundDivideConfig {
 }
 
 impl BackgroundDivideConfig {
+    // Gives the settings that the published Rust has by default.
     pub fn default() -> Self
         ensures { λ r. ⌜ r ≡ divisionDefaults ⌝ }
     {
@@ -42,7 +44,7 @@ impl BackgroundDivideConfig {
     }
 }
 
-// One pixel. The background is raised to the floor first; the operands of the quotient stay narrow.
+// Divides one pixel. It raises the background to the floor first, and keeps the operands of the quotient narrow.
 fn divide(source: u8, background: u8, config: BackgroundDivideConfig) -> u8
     requires { ⌜ 0 < config .«denominator_floor» ⌝ }
     ensures { λ r. ⌜ r ≡ quotient config source background ⌝ }
@@ -76,7 +78,7 @@ pub(crate) fn divide_plane(
     }
 }
 
-// The picture packed into the first plane of the workspace, and closed and divided in the second.
+// Packs the picture into the first plane of the workspace, and closes and divides it in the second.
 pub(crate) fn flatten(
     tally: Tally,
     src: &[u8],
@@ -151,7 +153,7 @@ fn divide_picture(
     tally
 }
 
-// Whether the settings are in range: a bad element is 7 here, and not a bad kernel.
+// Accepts settings that are in range: a bad element is 7 here, and not a bad kernel.
 pub(crate) fn check_settings(config: BackgroundDivideConfig) -> Check
     ensures { λ r. ⌜ r ≡ first (divisionSettings config) ⌝ }
 {

@@ -26,6 +26,7 @@ ghost use Rattle.imgproc.specs.ReadingSteps.{ReadReady, ReadDone, OpenRe
 // A reading's byte workspace begins with this many planes of width × height bytes; the tiles' skips follow them.
 pub const PLANES: usize = 9;
 
+// The pixels of each kind, and the tally of the comparisons.
 pub struct ReadingCounts {
     pub dark: u64,
     pub light: u64,

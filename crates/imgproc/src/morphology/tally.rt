@@ -45,7 +45,7 @@ pub fn comparisons(tally: Tally) -> u64
     tally.comparisons
 }
 
-// The lesser of two samples, counted.
+// Takes the lesser of two samples, and counts the comparison.
 pub(crate) fn lesser(tally: Tally, a: u8, b: u8) -> Met
     requires { ⌜ HasRoom tally 1 ⌝ }
     ensures { λ r. ⌜ Compares (min a b) tally r ⌝ }
@@ -60,7 +60,7 @@ pub(crate) fn lesser(tally: Tally, a: u8, b: u8) -> Met
     }
 }
 
-// The greater of two samples, counted.
+// Takes the greater of two samples, and counts the comparison.
 pub(crate) fn greater(tally: Tally, a: u8, b: u8) -> Met
     requires { ⌜ HasRoom tally 1 ⌝ }
     ensures { λ r. ⌜ Compares (max a b) tally r ⌝ }

@@ -49,7 +49,7 @@ fn judge(
     }
 }
 
-// Counts the pixels that were judged dark, light and skipped.
+// The pixels that were judged dark, light and skipped.
 pub(crate) struct Judged {
     pub dark: u64,
     pub light: u64,
