@@ -87,23 +87,20 @@ pub record LanesMet (tally : Tally) (d : List ℕ) (a b to w : ℕ) (least : Boo
   pub row : Rowed to w (λ x. extreme least (getD d (a + x) 0) (getD d (b + x) 0)) d d′
   pub counted : Raised tally w raised
 
--- a forward or a backward pass asks for two planes apart from each other
-pub record PassReady (tally : Tally) (d : List ℕ) (from to k w h : ℕ) : Type 0 where
-  pub source : from + w * h ≤ length d
-  pub target : to + w * h ≤ length d
-  pub apart : Apart from (w * h) to (w * h)
-  pub kernel : 0 < k
-  pub room : HasRoom tally (w * h)
+-- counts the samples of each plane
+abbrev pub area : Planes → ℕ
+area p = p .width * p .height
 
--- a joining pass asks for two planes that it reads, and one apart from both that it writes
-pub record JoinReady (tally : Tally) (d : List ℕ) (suffix prefix to k w h : ℕ) : Type 0 where
-  pub left : suffix + w * h ≤ length d
-  pub right : prefix + w * h ≤ length d
-  pub target : to + w * h ≤ length d
-  pub left-apart : Apart suffix (w * h) to (w * h)
-  pub right-apart : Apart prefix (w * h) to (w * h)
+-- a pass asks for the planes and twice their area of scratch in the workspace, the scratch apart from both planes, and
+-- room in the tally
+pub record PassReady (tally : Tally) (d : List ℕ) (p : Planes) (k : ℕ) : Type 0 where
+  pub source : p .from + area p ≤ length d
+  pub target : p .to + area p ≤ length d
+  pub scratch : p .spare + 2 * area p ≤ length d
+  pub source-apart : Apart (p .from) (area p) (p .spare) (2 * area p)
+  pub target-apart : Apart (p .to) (area p) (p .spare) (2 * area p)
   pub kernel : 0 < k
-  pub room : HasRoom tally (w * h)
+  pub room : HasRoom tally (area p)
 
 -- a pass leaves at each sample of the plane at `to` what P says, changes nothing else, and raises the tally by w for
 -- each line that the test passes
@@ -113,22 +110,24 @@ pub record Passed (P : ℕ → ℕ → ℕ → Type 0) (test : ℕ → Bool) (ta
   pub rest : Outside to (w * h) d d′
   pub counted : Raised tally (walk test h * w) raised
 
--- each of the three passes leaves its own extremes
-abbrev pub ForwardPassed : Tally → List ℕ → ℕ → ℕ → ℕ → ℕ → ℕ → Bool → Tally → List ℕ → Type 0
-ForwardPassed tally d from to k w h least raised d′ =
-    Passed (λ x. Forwards (Before least) k (lane d from w x)) (forwardAt k) tally d to w h raised d′
+-- each of the three passes leaves its own extremes: the forward ones in the scratch, the backward ones behind them, and
+-- those of both in the plane at `to`
+abbrev pub ForwardPassed : Tally → List ℕ → Planes → ℕ → Bool → Tally → List ℕ → Type 0
+ForwardPassed tally d p k least raised d′ =
+    Passed (λ x. Forwards (Before least) k (lane d (p .from) (p .width) x)) (forwardAt k)
+    tally d (p .spare) (p .width) (p .height) raised d′
 
-abbrev pub BackwardPassed : Tally → List ℕ → ℕ → ℕ → ℕ → ℕ → ℕ → Bool → Tally → List ℕ → Type 0
-BackwardPassed tally d from to k w h least raised d′ =
-    Passed (λ x. Backwards (Before least) k h (lane d from w x)) (backwardAt k h) tally d to w h raised d′
+abbrev pub BackwardPassed : Tally → List ℕ → Planes → ℕ → Bool → Tally → List ℕ → Type 0
+BackwardPassed tally d p k least raised d′ =
+    Passed (λ x. Backwards (Before least) k (p .height) (lane d (p .from) (p .width) x)) (backwardAt k (p .height))
+    tally d (p .spare + area p) (p .width) (p .height) raised d′
 
-abbrev pub JoinPassed : Tally → List ℕ → ℕ → ℕ → ℕ → ℕ → ℕ → ℕ → Bool → Tally → List ℕ → Type 0
-JoinPassed tally d suffix prefix to k w h least raised d′ =
-    Passed (λ x. Joins (extreme least) k h (lane d suffix w x) (lane d prefix w x)) joinAt tally d to w h raised d′
-
--- counts the samples of each plane
-abbrev pub area : Planes → ℕ
-area p = p .width * p .height
+abbrev pub JoinPassed : Tally → List ℕ → Planes → ℕ → Bool → Tally → List ℕ → Type 0
+JoinPassed tally d p k least raised d′ =
+    Passed
+    (λ x.
+    Joins (extreme least) k (p .height) (lane d (p .spare + area p) (p .width) x) (lane d (p .spare) (p .width) x))
+    joinAt tally d (p .to) (p .width) (p .height) raised d′
 
 -- a sweep in place reads the plane that it writes
 abbrev pub inPlace : Planes → Planes
@@ -138,15 +137,9 @@ inPlace p = record { from = p .to; to = p .to; spare = p .spare; width = p .widt
 abbrev pub Beside : ℕ → Planes → List ℕ → List ℕ → Type 0
 Beside n p d d′ = Spared (p .to) (area p) (p .spare) n d d′
 
--- a sweep of lanes side by side asks for the planes and twice their area of scratch in the workspace, the scratch apart
--- from both planes, and room in the tally
+-- a sweep of lanes side by side asks what its passes ask, and room in the tally for all three
 pub record LinesReady (tally : Tally) (d : List ℕ) (p : Planes) (k : ℕ) : Type 0 where
-  pub source : p .from + area p ≤ length d
-  pub target : p .to + area p ≤ length d
-  pub scratch : p .spare + 2 * area p ≤ length d
-  pub source-apart : Apart (p .from) (area p) (p .spare) (2 * area p)
-  pub target-apart : Apart (p .to) (area p) (p .spare) (2 * area p)
-  pub kernel : 0 < k
+  pub pass : PassReady tally d p k
   pub room : HasRoom tally (3 * area p)
 
 -- it leaves at each sample of each lane the extreme of its reach, counts the walks of each lane, and changes nothing

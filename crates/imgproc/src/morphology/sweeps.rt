@@ -18,7 +18,6 @@ ghost use Rattle.imgproc.specs.Sweeps.{
   LanesReady,
   LanesMet,
   PassReady,
-  JoinReady,
   ForwardPassed,
   BackwardPassed,
   JoinPassed,
@@ -88,20 +87,16 @@ fn meet_lanes(
     t
 }
 
-// Walks forward: each line meets the extreme so far of its block.
-fn forward_pass(
-    tally: Tally,
-    ws: &mut [u8],
-    from: usize,
-    to: usize,
-    kernel: usize,
-    width: usize,
-    height: usize,
-    least: bool,
-) -> Tally
-    requires { ⌜ PassReady tally (now ws) from to kernel width height ⌝ }
-    ensures { λ r. ⌜ ForwardPassed tally (now (ws .entry)) from to kernel width height least r (now (ws .exit)) ⌝ }
+// Walks forward, from the plane that is read to the first half of the scratch: each line meets the extreme so far of
+// its block.
+fn forward_pass(tally: Tally, ws: &mut [u8], planes: Planes, kernel: usize, least: bool) -> Tally
+    requires { ⌜ PassReady tally (now ws) planes kernel ⌝ }
+    ensures { λ r. ⌜ ForwardPassed tally (now (ws .entry)) planes kernel least r (now (ws .exit)) ⌝ }
 {
+    let from = planes.from;
+    let to = planes.spare;
+    let width = planes.width;
+    let height = planes.height;
     let mut t = tally;
     let mut next = 0;
     let mut below = 0;
@@ -119,20 +114,17 @@ fn forward_pass(
     t
 }
 
-// Walks backward: each line meets the extreme of the rest of its block.
-fn backward_pass(
-    tally: Tally,
-    ws: &mut [u8],
-    from: usize,
-    to: usize,
-    kernel: usize,
-    width: usize,
-    height: usize,
-    least: bool,
-) -> Tally
-    requires { ⌜ PassReady tally (now ws) from to kernel width height ⌝ }
-    ensures { λ r. ⌜ BackwardPassed tally (now (ws .entry)) from to kernel width height least r (now (ws .exit)) ⌝ }
+// Walks backward, from the plane that is read to the second half of the scratch: each line meets the extreme of the
+// rest of its block.
+fn backward_pass(tally: Tally, ws: &mut [u8], planes: Planes, kernel: usize, least: bool) -> Tally
+    requires { ⌜ PassReady tally (now ws) planes kernel ⌝ }
+    ensures { λ r. ⌜ BackwardPassed tally (now (ws .entry)) planes kernel least r (now (ws .exit)) ⌝ }
 {
+    let from = planes.from;
+    let spare = planes.spare;
+    let width = planes.width;
+    let height = planes.height;
+    let to = spare + width * height;
     let mut t = tally;
     let mut y = height;
     let mut at = width * height;
@@ -148,22 +140,16 @@ fn backward_pass(
     t
 }
 
-// Joins both: the backward extreme at low meets the forward one at high.
-fn join_pass(
-    tally: Tally,
-    ws: &mut [u8],
-    suffix: usize,
-    prefix: usize,
-    to: usize,
-    kernel: usize,
-    width: usize,
-    height: usize,
-    least: bool,
-) -> Tally
-    requires { ⌜ JoinReady tally (now ws) suffix prefix to kernel width height ⌝ }
-    ensures { λ r.
-        ⌜ JoinPassed tally (now (ws .entry)) suffix prefix to kernel width height least r (now (ws .exit)) ⌝ }
+// Joins both, to the plane that is written: the backward extreme at low meets the forward one at high.
+fn join_pass(tally: Tally, ws: &mut [u8], planes: Planes, kernel: usize, least: bool) -> Tally
+    requires { ⌜ PassReady tally (now ws) planes kernel ⌝ }
+    ensures { λ r. ⌜ JoinPassed tally (now (ws .entry)) planes kernel least r (now (ws .exit)) ⌝ }
 {
+    let to = planes.to;
+    let prefix = planes.spare;
+    let width = planes.width;
+    let height = planes.height;
+    let suffix = prefix + width * height;
     let radius = (kernel - 1) / 2;
     let mut t = tally;
     let mut y = 0;
@@ -179,7 +165,7 @@ fn join_pass(
 }
 
 // Slides the extreme along each of `width` lanes of `height` samples, from one plane to another or back to the same.
-// The scratch holds the forward extremes, then the backward ones.
+// The scratch holds the forward extremes in its first half and the backward ones in its second.
 pub(crate) fn running_extremum_1d(
     tally: Tally,
     ws: &mut [u8],
@@ -190,24 +176,9 @@ pub(crate) fn running_extremum_1d(
     requires { ⌜ LinesReady tally (now ws) planes kernel ⌝ }
     ensures { λ r. ⌜ LinesSwept tally (now (ws .entry)) planes kernel least r (now (ws .exit)) ⌝ }
 {
-    let from = planes.from;
-    let spare = planes.spare;
-    let width = planes.width;
-    let height = planes.height;
-    let suffix = spare + width * height;
-    let a = forward_pass(tally, ws, from, spare, kernel, width, height, least);
-    let b = backward_pass(a, ws, from, suffix, kernel, width, height, least);
-    join_pass(
-        b,
-        ws,
-        suffix,
-        spare,
-        planes.to,
-        kernel,
-        width,
-        height,
-        least,
-    )
+    let a = forward_pass(tally, ws, planes, kernel, least);
+    let b = backward_pass(a, ws, planes, kernel, least);
+    join_pass(b, ws, planes, kernel, least)
 }
 
 // Copies column x of a plane whose rows are `step` long, as a row of `count` samples.

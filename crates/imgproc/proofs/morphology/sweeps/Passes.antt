@@ -6,7 +6,7 @@ use mathlib.Core.Logic.{_⊎_, inl, inr, ⊎-elim}
 use Prim.Native.Nat.{ℕ, _+_, _-_, _*_, _%_, _≤_, _<_}
 use native.Mathlib.Nat.{mul-le-mul-right}
 use native.Mathlib.Omega.{arith}
-use lib.ListN.{getD}
+use lib.ListN.{length, getD}
 use borrow.Author.Tests.{eq-eqb, ne-eqb}
 use Rattle.imgproc.specs.Extremes.{Order}
 use Rattle.imgproc.specs.Reach.{walk, forwardAt, backwardAt, joinAt, low, high, radius}
@@ -22,6 +22,7 @@ use Rattle.imgproc.specs.Sweeps.{
   Forwards,
   Backwards,
   Joins,
+  PassReady,
   Passed,
   ForwardPassed,
   BackwardPassed,
@@ -40,7 +41,7 @@ use Rattle.imgproc.proofs.morphology.sweeps.Blocks.{
   seen,
   order,
 }
-use Rattle.imgproc.proofs.morphology.Lanes.{off, apart-within, outside-at, line-order, line-before, Downward, down-more, Upward, up-more}
+use Rattle.imgproc.proofs.morphology.Lanes.{off, apart-within, apart-swap, outside-at, line-order, line-before, Downward, down-more, Upward, up-more}
 
 -- a sample of a plane apart from the one that was written is as it was
 pub plane-kept : {w h to : ℕ} {d a : List ℕ} (from x y j : ℕ) → Apart from (w * h) to (w * h) → Outside to (w * h) d a → x < w → y < h
@@ -122,10 +123,7 @@ module _ (op : ℕ → ℕ → ℕ) (k suffix prefix to w h : ℕ)
 -- ---- the three passes: at each sample of each lane the extreme of its reach. The scratch at `spare` holds the forward extremes, then the backward ones
 pub lines-swept : {least : Bool} {k : ℕ} {p : Planes} {t a b r : Tally} {d e f g : List ℕ} → 0 < k
     → Apart (p .from) (area p) (p .spare) (2 * area p)
-    → ForwardPassed t d (p .from) (p .spare) k (p .width) (p .height) least a e
-    → BackwardPassed a e (p .from) (p .spare + area p) k (p .width) (p .height) least b f
-    → JoinPassed b f (p .spare + area p) (p .spare) (p .to) k (p .width) (p .height) least r g
-    → LinesSwept t d p k least r g
+    → ForwardPassed t d p k least a e → BackwardPassed a e p k least b f → JoinPassed b f p k least r g → LinesSwept t d p k least r g
 lines-swept {least} {k} {p} {d = d} {f = f} {g = g} pos apart forth back joined = record {
   each = λ x y X Y.
       reached (order least) k pos (lane d (p .from) (p .width) x) (p .height) (lane f (p .spare + area p) (p .width) x) (lane f (p .spare) (p .width) x)
@@ -152,6 +150,32 @@ lines-swept {least} {k} {p} {d = d} {f = f} {g = g} pos apart forth back joined 
         ∙ outside-at j (back .rest) (record { off = ⊎-elim (λ s. inl (omega arith)) (λ s. inr (omega arith)) (q .off) })
         ∙ outside-at j (forth .rest) (record { off = ⊎-elim (λ s. inl (omega arith)) (λ s. inr (omega arith)) (q .off) });
   };
+}
+
+-- the planes that a pass reads and writes lie apart: the source from both halves of the scratch, and these from the target
+module _ {t : Tally} {d : List ℕ} {p : Planes} {k : ℕ} (ready : PassReady t d p k) where
+  pub forth-apart : Apart (p .from) (area p) (p .spare) (area p)
+  forth-apart = apart-within _ _ _ _ (ready .source-apart) (omega arith) (omega arith) (omega arith) (omega arith)
+
+  pub back-apart : Apart (p .from) (area p) (p .spare + area p) (area p)
+  back-apart = apart-within _ _ _ _ (ready .source-apart) (omega arith) (omega arith) (omega arith) (omega arith)
+
+  pub prefix-apart : Apart (p .spare) (area p) (p .to) (area p)
+  prefix-apart = apart-within _ _ _ _ (apart-swap (ready .target-apart)) (omega arith) (omega arith) (omega arith) (omega arith)
+
+  pub suffix-apart : Apart (p .spare + area p) (area p) (p .to) (area p)
+  suffix-apart = apart-within _ _ _ _ (apart-swap (ready .target-apart)) (omega arith) (omega arith) (omega arith) (omega arith)
+
+-- what a later pass asks
+pub pass-again : {t a : Tally} {d e : List ℕ} {p : Planes} {k : ℕ} → PassReady t d p k → length e ≡ length d → HasRoom a (area p) → PassReady a e p k
+pass-again q long room = record {
+  source = omega (arith, q .source);
+  target = omega (arith, q .target);
+  scratch = omega (arith, q .scratch);
+  source-apart = q .source-apart;
+  target-apart = q .target-apart;
+  kernel = q .kernel;
+  room = room;
 }
 
 -- after a pass there is room in the tally for what the plane's samples leave

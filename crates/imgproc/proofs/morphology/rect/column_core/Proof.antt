@@ -10,12 +10,15 @@ running-extremum-1d-requires : tie.Need-running-extremum-1d-requires
 running-extremum-1d-requires c κs =
     let pre = c .before .before .pre in
     record {
-      source = omega arith;
-      target = omega arith;
-      scratch = omega arith;
-      source-apart = apart-within _ _ _ _ (pre .source-apart) (omega arith) (omega arith) (omega arith) (omega arith);
-      target-apart = apart-within _ _ _ _ (pre .target-apart) (omega arith) (omega arith) (omega arith) (omega arith);
-      kernel = omega arith;
+      pass = record {
+        source = omega arith;
+        target = omega arith;
+        scratch = omega arith;
+        source-apart = apart-within _ _ _ _ (pre .source-apart) (omega arith) (omega arith) (omega arith) (omega arith);
+        target-apart = apart-within _ _ _ _ (pre .target-apart) (omega arith) (omega arith) (omega arith) (omega arith);
+        kernel = omega arith;
+        room = room-part (pre .room) (omega arith);
+      };
       room = room-part (pre .room) (omega arith);
     }
 

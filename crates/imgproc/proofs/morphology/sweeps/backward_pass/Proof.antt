@@ -10,17 +10,23 @@ use Rattle.imgproc.specs.Compared.{Before}
 use Rattle.imgproc.specs.Sweeps.{lane, Backwards}
 use Rattle.imgproc.proofs.morphology.sweeps.Blocks.{order}
 use Rattle.imgproc.proofs.morphology.Lanes.{apart-within, line-order, Upward, up-none, up-room, up-fits, up-all}
-use Rattle.imgproc.proofs.morphology.sweeps.Passes.{backward-copy, backward-meet}
+use Rattle.imgproc.proofs.morphology.sweeps.Passes.{backward-copy, backward-meet, back-apart}
 use borrow.Author.Needs.{needs}
 use Rattle.imgproc.proofs.morphology.sweeps.backward_pass.Statement.{statement}
 use Rattle.imgproc.proofs.morphology.sweeps.backward_pass.Tie as tie
 
 abbrev Inv-loop : tie.InvT-loop
-Inv-loop ws₀ from to kernel width height least t₀ y₀ at₀ ws t y at =
+Inv-loop ws₀ kernel least from spare width height to t₀ y₀ at₀ ws t y at =
     Upward (λ (x : ℕ). Backwards (Before least) kernel height (lane ws₀ from width x)) (backwardAt kernel height) to width height y at ws₀ ws t₀ t
 
 abbrev μ-loop : tie.MeasureT-loop
-μ-loop ws₀ from to kernel width height least t₀ y₀ at₀ ws t y at = y
+μ-loop ws₀ kernel least from spare width height to t₀ y₀ at₀ ws t y at = y
+
+mul-to : tie.Need-mul-to Inv-loop μ-loop
+mul-to c = omega (arith, c .before .pre .source)
+
+add-to : tie.Need-add-to Inv-loop μ-loop
+add-to c = omega (arith, c .before .pre .scratch)
 
 mul-at : tie.Need-mul-at Inv-loop μ-loop
 mul-at c = omega arith
@@ -33,7 +39,7 @@ sub-y c = search needs
 
 -- a turn's line is within the plane
 fits : (c : tie.In-loop Inv-loop μ-loop)
-    → let a = c .before .before .before .args in
+    → let a = c .before .before .before .args .planes in
     (a .width ≤ c .before .loop .at) × (c .before .loop .at ≤ a .width * a .height)
 fits c = up-fits (c .before .loop .inv) (c .loop-test .taken)
 
@@ -60,7 +66,7 @@ copy-lanes-requires c κs =
     let in-loop = c .before .before .before in
     let f = fits in-loop in
     let long = in-loop .before .loop .inv .lines .rest .long in
-    let apart = in-loop .before .before .before .pre .apart in
+    let apart = back-apart (in-loop .before .before .before .pre) in
     (omega arith, omega arith, apart-within _ _ _ _ apart (omega arith) (omega arith) (omega arith) (omega arith))
 
 loop-less : tie.Need-loop-less Inv-loop μ-loop
@@ -72,7 +78,9 @@ loop-again c =
     let joined = called .before .before .before in
     let in-loop = joined .before in
     let start = in-loop .before .before .before in
-    backward-copy (order (start .args .least)) _ (start .pre .kernel) _ _ _ _ (start .pre .apart) _ _ (in-loop .before .loop .inv) (in-loop .loop-test .taken)
+    backward-copy (order (start .args .least)) _ (start .pre .kernel) _ _ _ _ (back-apart (start .pre)) _ _
+    (in-loop .before .loop .inv)
+    (in-loop .loop-test .taken)
     (⊎-elim (λ w. inl (w .0 .taken)) (λ w. inr (eqb-true _ _ (sym (w .1) ∙ called .before .before .if2 .taken))) (joined .if1 .came))
     (called .copy-lanes .ensures)
 
@@ -80,7 +88,7 @@ loop-again c =
 neither : (c : tie.Else2 Inv-loop μ-loop)
     → let a = c .before .before .before .before .before .args in
     let y = c .before .before .before .loop .y in
-    ((y - 1) % a .kernel ≡ a .kernel - 1 → ⊥) × (y - 1 ≡ a .height - 1 → ⊥)
+    ((y - 1) % a .kernel ≡ a .kernel - 1 → ⊥) × (y - 1 ≡ a .planes .height - 1 → ⊥)
 neither c =
     ⊎-elim
     (λ w. absurd (eqb-false _ _ (sym (w .1) ∙ c .if2 .left) (w .0 .taken)))
@@ -89,11 +97,11 @@ neither c =
 
 -- and then there is a line below
 under : (c : tie.Else2 Inv-loop μ-loop)
-    → let a = c .before .before .before .before .before .args in
+    → let a = c .before .before .before .before .before .args .planes in
     c .before .before .before .loop .at + a .width ≤ a .width * a .height
 under c =
     let in-loop = c .before .before in
-    let a = in-loop .before .before .before .args in
+    let a = in-loop .before .before .before .args .planes in
     let inv = in-loop .before .loop .inv in
     omega (arith, line-order (a .width) (in-loop .before .loop .y) (a .height) (omega (arith, neither c .1, inv .inside)), inv .here)
 
@@ -118,13 +126,14 @@ meet-lanes-requires c κs =
     let u = under (c .before) in
     let n = neither (c .before) in
     let long = in-loop .before .loop .inv .lines .rest .long in
-    let test : backwardAt (start .args .kernel) (start .args .height) (in-loop .before .loop .y - 1) ≡ true = simp (ne-eqb _ _ (n .0), ne-eqb _ _ (n .1)) in
+    let test : backwardAt (start .args .kernel) (start .args .planes .height) (in-loop .before .loop .y - 1) ≡ true =
+    simp (ne-eqb _ _ (n .0), ne-eqb _ _ (n .1)) in
     record {
       left = omega arith;
       right = omega arith;
       target = omega arith;
       left-apart = record { clear = inr (omega arith) };
-      right-apart = apart-within _ _ _ _ (pre .apart) (omega arith) (omega arith) (omega arith) (omega arith);
+      right-apart = apart-within _ _ _ _ (back-apart pre) (omega arith) (omega arith) (omega arith) (omega arith);
       room = up-room (pre .room) (in-loop .before .loop .inv) (in-loop .loop-test .taken) test;
     }
 
@@ -137,7 +146,9 @@ loop-again-2 c =
     let else2 = called .before .before in
     let in-loop = else2 .before .before in
     let start = in-loop .before .before .before in
-    backward-meet (order (start .args .least)) _ (start .pre .kernel) _ _ _ _ (start .pre .apart) _ _ (in-loop .before .loop .inv) (in-loop .loop-test .taken)
+    backward-meet (order (start .args .least)) _ (start .pre .kernel) _ _ _ _ (back-apart (start .pre)) _ _
+    (in-loop .before .loop .inv)
+    (in-loop .loop-test .taken)
     (neither else2 .0)
     (neither else2 .1)
     (called .meet-lanes .ensures .row)
@@ -155,6 +166,8 @@ backward-pass-spec =
     (tie.spec
     Inv-loop
     μ-loop
+    mul-to
+    add-to
     mul-at
     loop-holds
     sub-y

@@ -7,17 +7,17 @@ use Rattle.imgproc.specs.Compared.{Before}
 use Rattle.imgproc.specs.Sweeps.{lane, Forwards}
 use Rattle.imgproc.proofs.morphology.sweeps.Blocks.{order, after}
 use Rattle.imgproc.proofs.morphology.Lanes.{apart-within, line-before, Downward, down-none, down-room, down-fits, down-all}
-use Rattle.imgproc.proofs.morphology.sweeps.Passes.{forward-copy, forward-meet}
+use Rattle.imgproc.proofs.morphology.sweeps.Passes.{forward-copy, forward-meet, forth-apart}
 use borrow.Author.Needs.{needs}
 use Rattle.imgproc.proofs.morphology.sweeps.forward_pass.Statement.{statement}
 use Rattle.imgproc.proofs.morphology.sweeps.forward_pass.Tie as tie
 
 abbrev Inv-loop : tie.InvT-loop
-Inv-loop ws₀ from to kernel width height least t₀ next₀ below₀ ws t next below =
+Inv-loop ws₀ kernel least from to width height t₀ next₀ below₀ ws t next below =
     Downward (λ (x : ℕ). Forwards (Before least) kernel (lane ws₀ from width x)) (forwardAt kernel) to width height next below ws₀ ws t₀ t
 
 abbrev μ-loop : tie.MeasureT-loop
-μ-loop ws₀ from to kernel width height least t₀ next₀ below₀ ws t next below = height - next
+μ-loop ws₀ kernel least from to width height t₀ next₀ below₀ ws t next below = height - next
 
 loop-holds : tie.Need-loop-holds Inv-loop μ-loop
 loop-holds c = down-none
@@ -27,7 +27,7 @@ add-next c = search needs
 
 -- a turn's line is within the plane
 fits : (c : tie.In-loop Inv-loop μ-loop)
-    → let a = c .before .before .before .args in
+    → let a = c .before .before .before .args .planes in
     c .before .loop .below + a .width ≤ a .width * a .height
 fits c = down-fits (c .before .loop .inv) (c .loop-test .taken)
 
@@ -48,7 +48,7 @@ copy-lanes-requires c κs =
     let in-loop = c .before .before in
     let f = fits in-loop in
     let long = in-loop .before .loop .inv .lines .rest .long in
-    let apart = in-loop .before .before .before .pre .apart in
+    let apart = forth-apart (in-loop .before .before .before .pre) in
     (omega arith, omega arith, apart-within _ _ _ _ apart (omega arith) (omega arith) (omega arith) (omega arith))
 
 loop-less : tie.Need-loop-less Inv-loop μ-loop
@@ -59,15 +59,17 @@ loop-again c =
     let called = c .before .before in
     let in-loop = called .before .before .before in
     let start = in-loop .before .before .before in
-    forward-copy (order (start .args .least)) _ (start .pre .kernel) _ _ _ _ (start .pre .apart) _ _ (in-loop .before .loop .inv) (in-loop .loop-test .taken)
+    forward-copy (order (start .args .least)) _ (start .pre .kernel) _ _ _ _ (forth-apart (start .pre)) _ _
+    (in-loop .before .loop .inv)
+    (in-loop .loop-test .taken)
     (called .before .before .if1 .taken)
     (called .copy-lanes .ensures)
 
 -- and has one above it
-above : (c : tie.Else1 Inv-loop μ-loop) → c .before .before .before .before .args .width ≤ c .before .before .loop .below
+above : (c : tie.Else1 Inv-loop μ-loop) → c .before .before .before .before .args .planes .width ≤ c .before .before .loop .below
 above c =
     let lp = c .before .before .loop in
-    omega (arith, line-before (c .before .before .before .before .args .width) (lp .next) (after _ _ (c .if1 .left)), lp .inv .here)
+    omega (arith, line-before (c .before .before .before .before .args .planes .width) (lp .next) (after _ _ (c .if1 .left)), lp .inv .here)
 
 sub-meet-lanes : tie.Need-sub-meet-lanes Inv-loop μ-loop
 sub-meet-lanes c = above (c .before)
@@ -93,7 +95,7 @@ meet-lanes-requires c κs =
       right = omega arith;
       target = omega arith;
       left-apart = record { clear = inl (omega arith) };
-      right-apart = apart-within _ _ _ _ (pre .apart) (omega arith) (omega arith) (omega arith) (omega arith);
+      right-apart = apart-within _ _ _ _ (forth-apart pre) (omega arith) (omega arith) (omega arith) (omega arith);
       room = down-room (pre .room) (in-loop .before .loop .inv) (in-loop .loop-test .taken);
     }
 
@@ -105,7 +107,9 @@ loop-again-2 c =
     let called = c .before .before in
     let in-loop = called .before .before .before in
     let start = in-loop .before .before .before in
-    forward-meet (order (start .args .least)) _ (start .pre .kernel) _ _ _ _ (start .pre .apart) _ _ (in-loop .before .loop .inv) (in-loop .loop-test .taken)
+    forward-meet (order (start .args .least)) _ (start .pre .kernel) _ _ _ _ (forth-apart (start .pre)) _ _
+    (in-loop .before .loop .inv)
+    (in-loop .loop-test .taken)
     (called .before .before .if1 .left)
     (called .meet-lanes .ensures .row)
     (called .meet-lanes .ensures .counted)

@@ -5,17 +5,23 @@ use Rattle.imgproc.specs.Reach.{joinAt}
 use Rattle.imgproc.specs.Compared.{extreme}
 use Rattle.imgproc.specs.Sweeps.{lane, Joins}
 use Rattle.imgproc.proofs.morphology.Lanes.{apart-within, line-order, Downward, down-none, down-room, down-fits, down-all}
-use Rattle.imgproc.proofs.morphology.sweeps.Passes.{join-line}
+use Rattle.imgproc.proofs.morphology.sweeps.Passes.{join-line, prefix-apart, suffix-apart}
 use borrow.Author.Needs.{needs}
 use Rattle.imgproc.proofs.morphology.sweeps.join_pass.Statement.{statement}
 use Rattle.imgproc.proofs.morphology.sweeps.join_pass.Tie as tie
 
 abbrev Inv-loop : tie.InvT-loop
-Inv-loop ws₀ suffix prefix to kernel width height least radius t₀ y₀ at₀ ws t y at =
+Inv-loop ws₀ kernel least to prefix width height suffix radius t₀ y₀ at₀ ws t y at =
     Downward (λ (x : ℕ). Joins (extreme least) kernel height (lane ws₀ suffix width x) (lane ws₀ prefix width x)) joinAt to width height y at ws₀ ws t₀ t
 
 abbrev μ-loop : tie.MeasureT-loop
-μ-loop ws₀ suffix prefix to kernel width height least radius t₀ y₀ at₀ ws t y at = height - y
+μ-loop ws₀ kernel least to prefix width height suffix radius t₀ y₀ at₀ ws t y at = height - y
+
+mul-suffix : tie.Need-mul-suffix Inv-loop μ-loop
+mul-suffix c = omega (arith, c .before .pre .source)
+
+add-suffix : tie.Need-add-suffix Inv-loop μ-loop
+add-suffix c = omega (arith, c .before .pre .scratch)
 
 sub-radius : tie.Need-sub-radius Inv-loop μ-loop
 sub-radius c = search needs
@@ -28,9 +34,9 @@ low-requires c κs = search needs
 
 -- the line at low, that at high, and the one that a turn writes, are within the plane
 lower : (c : tie.After-low Inv-loop μ-loop)
-    → let a = c .before .before .before .before .args in
+    → let a = c .before .before .before .before .args .planes in
     c .low .result * a .width + a .width ≤ a .width * a .height
-lower c = let a = c .before .before .before .before .args in omega (arith, line-order (a .width) (c .low .result) (a .height) (omega arith))
+lower c = let a = c .before .before .before .before .args .planes in omega (arith, line-order (a .width) (c .low .result) (a .height) (omega arith))
 
 mul-low : tie.Need-mul-low Inv-loop μ-loop
 mul-low c = omega (arith, lower c)
@@ -39,12 +45,12 @@ high-requires : tie.Need-high-requires Inv-loop μ-loop
 high-requires c κs = search needs
 
 upper : (c : tie.After-high Inv-loop μ-loop)
-    → let a = c .before .before .before .before .before .args in
+    → let a = c .before .before .before .before .before .args .planes in
     c .high .result * a .width + a .width ≤ a .width * a .height
-upper c = let a = c .before .before .before .before .before .args in omega (arith, line-order (a .width) (c .high .result) (a .height) (omega arith))
+upper c = let a = c .before .before .before .before .before .args .planes in omega (arith, line-order (a .width) (c .high .result) (a .height) (omega arith))
 
 fits : (c : tie.In-loop Inv-loop μ-loop)
-    → let a = c .before .before .before .args in
+    → let a = c .before .before .before .args .planes in
     c .before .loop .at + a .width ≤ a .width * a .height
 fits c = down-fits (c .before .loop .inv) (c .loop-test .taken)
 
@@ -72,8 +78,8 @@ meet-lanes-requires c κs =
       left = omega arith;
       right = omega arith;
       target = omega arith;
-      left-apart = apart-within _ _ _ _ (pre .left-apart) (omega arith) (omega arith) (omega arith) (omega arith);
-      right-apart = apart-within _ _ _ _ (pre .right-apart) (omega arith) (omega arith) (omega arith) (omega arith);
+      left-apart = apart-within _ _ _ _ (suffix-apart pre) (omega arith) (omega arith) (omega arith) (omega arith);
+      right-apart = apart-within _ _ _ _ (prefix-apart pre) (omega arith) (omega arith) (omega arith) (omega arith);
       room = down-room (pre .room) (in-loop .before .loop .inv) (in-loop .loop-test .taken);
     }
 
@@ -92,7 +98,7 @@ loop-again c =
     let highs = called .before .before in
     let in-loop = highs .before .before in
     let start = in-loop .before .before .before in
-    join-line (extreme (start .args .least)) _ _ _ _ _ _ (start .pre .left-apart) (start .pre .right-apart) _ _ (in-loop .before .loop .inv)
+    join-line (extreme (start .args .least)) _ _ _ _ _ _ (suffix-apart (start .pre)) (prefix-apart (start .pre)) _ _ (in-loop .before .loop .inv)
     (in-loop .loop-test .taken)
     (highs .before .low .ensures)
     (highs .high .ensures)
@@ -111,6 +117,8 @@ join-pass-spec =
     (tie.spec
     Inv-loop
     μ-loop
+    mul-suffix
+    add-suffix
     sub-radius
     loop-holds
     low-requires

@@ -28,12 +28,15 @@ running-extremum-1d-requires c κs =
     let pre = first .before .before .before .pre in
     let long = first .transpose .ensures .rest .long in
     record {
-      source = omega arith;
-      target = omega arith;
-      scratch = omega arith;
-      source-apart = record { clear = inl (omega arith) };
-      target-apart = record { clear = inl (omega arith) };
-      kernel = pre .kernel;
+      pass = record {
+        source = omega arith;
+        target = omega arith;
+        scratch = omega arith;
+        source-apart = record { clear = inl (omega arith) };
+        target-apart = record { clear = inl (omega arith) };
+        kernel = pre .kernel;
+        room = room-part (pre .room) (omega arith);
+      };
       room = room-part (pre .room) (omega arith);
     }
 
