@@ -19,8 +19,7 @@ use Rattle.imgproc.specs.GridCalls.{
   BuildLeft,
   TileCounts,
   tilesFrom,
-  buildConditions,
-  Builds,
+  BuildsBy,
   pixelConditions,
   rowConditions,
   tileOf,
@@ -31,7 +30,7 @@ use Rattle.imgproc.specs.GridCalls.{
   skipAsked,
   rowSkipAsked,
 }
-use Rattle.imgproc.specs.Reading.{ReadingNumbers, ReadingLent, ReadingLeft, numbersFrom, readingConditions, Reads}
+use Rattle.imgproc.specs.Reading.{ReadingNumbers, ReadingLent, ReadingLeft, numbersFrom, ReadsBy}
 
 -- a list of conditions by its numbers
 abbrev pub numbers : Conditions → List (Condition ℕ)
@@ -78,15 +77,16 @@ module _ {S A : Type 0} {operator : Operator S A} {lent : Loan S} {answer : Answ
       let r = refuses callValues (first (conditionsOf operator lent)) (sym (serves .answers) ∙ p) .is in
       (serves .leaves ∙ rw r, rw r at (serves .keeps))
 
--- ---- the build of a grid
-module _ {lent : BuildLent} {answer : Answer TileCounts} {left : BuildLeft} (builds : Builds lent answer left) where
-  pub build-exactly : Exactly (numbers (buildConditions lent)) (tilesFrom lent) answer
-  build-exactly = by-list (tilesFrom lent) (buildConditions lent) (builds .answers)
+-- ---- the build of a grid, by its own list or by another
+module _ {cs : Conditions} {lent : BuildLent} {answer : Answer TileCounts} {left : BuildLeft}
+    (builds : BuildsBy cs lent answer left) where
+  pub build-exactly : Exactly (numbers cs) (tilesFrom lent) answer
+  build-exactly = by-list (tilesFrom lent) cs (builds .answers)
 
   pub build-keeps : {n : ℕ} → answer ≡ refused n
       → (left .workspace ≡ lent .workspace) × ((left .thresholds ≡ lent .thresholds) × (left .skips ≡ lent .skips))
   build-keeps p =
-      let r = refuses (tilesFrom lent) (first (buildConditions lent)) (sym (builds .answers) ∙ p) .is in
+      let r = refuses (tilesFrom lent) (first cs) (sym (builds .answers) ∙ p) .is in
       (rw r at (builds .workspace-left), (builds .thresholds-left ∙ rw r, builds .skips-left ∙ rw r))
 
 -- ---- the queries, which are lent nothing that they write to
@@ -105,14 +105,14 @@ module _ (q : TileThresholdGrid) (d : List ℕ) where
       (rowSkipAsked q d y)
   row-skip-exactly y = by-list (allSkipped d (tileRowOf q y) (q .«tiles_x»)) (rowConditions q (length d) y) refl
 
--- ---- the reading
-module _ {lent : ReadingLent} {answer : Answer ReadingNumbers} {left : ReadingLeft}
-    (reads : Reads lent answer left) where
-  pub reading-exactly : Exactly (numbers (readingConditions lent)) (numbersFrom lent) answer
-  reading-exactly = by-list (numbersFrom lent) (readingConditions lent) (reads .answers)
+-- ---- the reading, by its own list or by another
+module _ {cs : Conditions} {lent : ReadingLent} {answer : Answer ReadingNumbers} {left : ReadingLeft}
+    (reads : ReadsBy cs lent answer left) where
+  pub reading-exactly : Exactly (numbers cs) (numbersFrom lent) answer
+  reading-exactly = by-list (numbersFrom lent) cs (reads .answers)
 
   pub reading-keeps : {n : ℕ} → answer ≡ refused n
       → (left .dst ≡ lent .dst) × ((left .bytes ≡ lent .bytes) × (left .u64s ≡ lent .u64s))
   reading-keeps p =
-      let r = refuses (numbersFrom lent) (first (readingConditions lent)) (sym (reads .answers) ∙ p) .is in
+      let r = refuses (numbersFrom lent) (first cs) (sym (reads .answers) ∙ p) .is in
       (reads .leaves ∙ rw r, (rw r at (reads .bytes-left), rw r at (reads .u64s-left)))

@@ -4,3 +4,5 @@ pub mod Exports
 pub mod Operators
 pub mod Grid
 pub mod Reading
+-- Laws about them.
+pub mod RefusedExactly
