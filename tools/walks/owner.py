@@ -220,19 +220,16 @@ def numbers_file(owner, code, paths, header):
         fit = paired(fits[:-1], fits[-1])
         calls.append(f'abbrev pub num-{k} : Own → Nums\nnum-{k} x = {paired(named[i] for i in given)}')
         calls.append(f'pub fit-{k} : (x : Own) → OwnFit x → NumsFit (num-{k} x)\nfit-{k} x fit = {fit}')
-    texts = numbers.texts()
     values = dict(
         header=header(NUMBERS.format(owner.name)),
         used=code.used(owner.asked, owner.said),
-        type=texts['type'],
         parts='\n\n'.join(parts),
         made='\n\n'.join(fit for _, fit in made),
-        fit_type=texts['fit_type'],
         calls='\n\n'.join(calls),
         asked=owner.over(owner.asked, named),
         done=owner.over(owner.said, named),
     )
-    return filled('numbers.txt', **values, **paths)
+    return filled('numbers.txt', **numbers.texts(), **values, **paths)
 
 
 def cited(i, name, paths):
@@ -249,7 +246,7 @@ def used(i, name, paths):
 
 def owner_file(owner, code, facts, paths, header):
     numbers = Numbers(owner.types)
-    texts = numbers.texts()
+    texts, steps = numbers.texts(), walk(owner, code, numbers)
     sweeps = sweeps_of(owner, code)
     count = range(1, len(owner.calls) + 1)
     made = [name for made in owner.made for name in (dashed(made.name), f'{dashed(made.name)}-fit')]
@@ -263,7 +260,8 @@ def owner_file(owner, code, facts, paths, header):
         told=paired(['LL.tells T.the-type T′.the-laws', 'mut-slice-tells (named 0) (κs .0) u8', *texts['told']]),
         lasts=paired(['tt', 'zs', *texts['none']]),
         lengths=paired(['tt', 'long', *texts['none']]),
-        walk=walk(owner, code, numbers),
+        walk=steps,
+        paths=', '.join(['_≡_', 'refl', '_∙_', *(name for name in ('subst', 'sym') if f'({name} ' in steps)]),
         nums=', '.join([*(f'num-{k}' for k in count), *(f'fit-{k}' for k in count), *made]),
         asks=', '.join(f'asks-{k}' for k in count),
         says=', '.join(sweep.says for _, sweep in sweeps),
@@ -279,8 +277,8 @@ def owner_file(owner, code, facts, paths, header):
 
 
 NUMBERS = """\
-The numbers of `{}` as its walk has them, those that it gives to each sweep, and what it asks and does over them.
-Assumes nothing."""
+The numbers of `{}` as its walk has them and what they own, those that it gives to each sweep, and what it asks and
+does over them. Assumes nothing."""
 PROOF = """\
 `{0}` meets its contract: a walk of its MIR. The borrow checker covers no function that makes a reference to a struct,
 so the kit cannot make it. In order: the tally that it is given is put into a local; for each sweep the local is lent for a

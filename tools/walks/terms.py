@@ -137,6 +137,7 @@ class Numbers:
         values = [number.value(self.term(i)) for i, number in enumerate(self.all)]
         fit = [self.fit(i, 'f') if i in self.sized else '' for i in range(len(self.all))]
         owned = [number.owned(self.term(i), fit[i]) for i, number in enumerate(self.all)]
+        plain = {number.rust for number in self.all if number.row == number.rust}
         # The tally and the slice come first among all parameters.
         known = [self.all[i].known(f'are{part(2 + i)}') for i in self.sized]
         return dict(
@@ -152,6 +153,7 @@ class Numbers:
             told=[number.tells for number in self.all],
             known=paired(known[:-1], known[-1]),
             none=['tt'] * len(self.all),
-            builtins=', '.join(sorted({'u8', *(number.rust for number in self.all if number.row == number.rust)})),
+            builtins=', '.join(sorted({'u8', *plain})),
+            own_builtins=', '.join(sorted(plain)),
             widths=', '.join(sorted({number.width for number in self.all if number.width})),
         )
