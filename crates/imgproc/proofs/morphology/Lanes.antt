@@ -77,10 +77,6 @@ module _ (at : ℕ) (g : ℕ → ℕ) (d : List ℕ) where
 pub row-all : {at x w : ℕ} {g : ℕ → ℕ} {d a : List ℕ} → Rowed at x g d a → x ≤ w → w ≤ x → Rowed at w g d a
 row-all {at} {x} {w} {g} {d} {a} h l m = subst (λ (n : ℕ). Rowed at n g d a) (omega arith) h
 
--- a row whose samples are told otherwise
-pub row-as : {at w : ℕ} {g f : ℕ → ℕ} {d a : List ℕ} → Rowed at w g d a → ((x : ℕ) → x < w → g x ≡ f x) → Rowed at w f d a
-row-as h e = record { each = λ x l. h .each x l ∙ e x l; rest = h .rest }
-
 -- ---- the lines of a plane that are done: P holds at each of their samples, and nothing outside the plane has changed
 pub record Done (P : ℕ → ℕ → ℕ → Type 0) (D : ℕ → Type 0) (to w h : ℕ) (d d′ : List ℕ) : Type 0 where
   pub each : (x y : ℕ) → x < w → D y → P x y (lane d′ to w x y)

@@ -16,12 +16,6 @@ module _ (op : ℕ → ℕ → ℕ) where
   unfolding foldOver
   fold-one f a = ap (foldFrom op f a) (sub-self a)
 
-  pub fold-next : (f : ℕ → ℕ) (a b : ℕ) → a ≤ b → foldOver op f a (b + 1) ≡ op (foldOver op f a b) (f (b + 1))
-  unfolding foldOver foldFrom
-  fold-next f a b t =
-      let n : b + 1 - a ≡ suc (b - a) = omega arith in
-      let e : a + suc (b - a) ≡ b + 1 = omega arith in ap (foldFrom op f a) n ∙ ap (λ (i : ℕ). op (foldFrom op f a (b - a)) (f i)) e
-
   from-same : (f g : ℕ → ℕ) (a n : ℕ) → ((i : ℕ) → a ≤ i → i ≤ a + n → f i ≡ g i) → foldFrom op f a n ≡ foldFrom op g a n
   unfolding foldFrom
   from-same f g a zero e = e a (omega arith) (omega arith)
