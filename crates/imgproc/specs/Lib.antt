@@ -22,6 +22,8 @@ pub mod RefusedExactly
 pub mod Extremes
 pub mod Walks
 pub mod MorphologyLaws
+pub mod UnderOver
+pub mod UnderOverLaws
 pub mod RootLaws
 pub mod RootNear
 pub mod RootBest
