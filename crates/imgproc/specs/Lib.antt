@@ -34,6 +34,7 @@ pub mod ReadingLaws
 pub mod ReadingMeans
 pub mod ReadingLeaves
 pub mod Cases
+pub mod PicturesUnderOver
 pub mod PicturesSauvola
 pub mod PicturesGrid
 pub mod PicturesReading
