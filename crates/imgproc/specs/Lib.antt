@@ -24,6 +24,8 @@ pub mod Walks
 pub mod MorphologyLaws
 pub mod UnderOver
 pub mod UnderOverLaws
+pub mod CallMeans
+pub mod MorphologyMeans
 pub mod RootLaws
 pub mod RootNear
 pub mod RootBest
