@@ -1,12 +1,13 @@
-//! Compares the library with the published Rust on the same inputs: `differential short`, `differential long` or
-//! `differential self-test`. At the first difference it prints the smallest input found, and exits with a status that
-//! is not 0.
+//! Compares the library with the published Rust on the same inputs, and checks laws of the library: `differential
+//! short`, `differential long` or `differential self-test`. At the first difference it prints the smallest input found,
+//! and at the first false law the input. It then exits with a status that is not 0.
 
 mod case;
 mod corner;
 mod document;
 mod fault;
 mod guard;
+mod laws;
 mod layouts;
 mod levels;
 mod patterns;
@@ -108,6 +109,9 @@ fn compared(plan: &Plan, seed: u64, rounds: Rounds) -> Result<(), String> {
     for subject in subjects() {
         at_every_corner(&run, subject, plan)?;
     }
+    let broken = |Difference(what)| format!("law {what}");
+    let mut laws = laws::Counts::default();
+    laws.fixed(plan).map_err(broken)?;
     let mut round = 0;
     loop {
         for subject in subjects() {
@@ -115,6 +119,10 @@ fn compared(plan: &Plan, seed: u64, rounds: Rounds) -> Result<(), String> {
             for _ in 0..subject.round {
                 (subject.random)(&mut run, &mut rng).map_err(told)?;
             }
+        }
+        let mut rng = stream(seed, "laws", round);
+        for _ in 0..laws::ROUND {
+            laws.random(&mut rng).map_err(broken)?;
         }
         round += 1;
         let done = match rounds {
@@ -127,6 +135,7 @@ fn compared(plan: &Plan, seed: u64, rounds: Rounds) -> Result<(), String> {
     }
     table(&run);
     corners(&run, plan);
+    laws.table()?;
     println!("{round} rounds of random cases, {} s", start.elapsed().as_secs());
     for subject in subjects() {
         let count = run.counts.get(subject.name).cloned().unwrap_or_default();
@@ -190,6 +199,7 @@ fn corners(run: &Run, plan: &Plan) {
 /// Plants each fault of each subject in our side's answer, and checks that it is reported.
 fn self_test() -> Result<(), String> {
     let corners = missed_corners()?;
+    let claims = laws::refuted(SEED)?;
     let mut seen = 0;
     for subject in subjects() {
         for fault in subject.faults() {
@@ -213,6 +223,7 @@ fn self_test() -> Result<(), String> {
         }
     }
     println!("self-test: {seen} planted faults, each reported; {corners} corners, each missed where no case is at it");
+    println!("self-test: {claims} false claims beside the laws, each refuted");
     Ok(())
 }
 

@@ -24,6 +24,20 @@ pub enum Kind {
     Close,
 }
 
+/// A call of the safe binding.
+type Safe = fn(&[u8], Geometry, &mut [u8], Geometry, usize, &mut [u8]) -> Result<u64, imgproc::Refusal>;
+
+impl Kind {
+    pub fn safe(self) -> Safe {
+        match self {
+            Self::Erode => ours::grayscale_erode_into,
+            Self::Dilate => ours::grayscale_dilate_into,
+            Self::Open => ours::grayscale_open_into,
+            Self::Close => ours::grayscale_close_into,
+        }
+    }
+}
+
 #[derive(Clone, Copy, Debug, PartialEq, Eq)]
 pub struct Morphology {
     kind: Kind,
@@ -62,13 +76,7 @@ impl Operator for Morphology {
     fn safe(
         &self, src: &[u8], s: Geometry, dst: &mut [u8], d: Geometry, workspace: &mut [u8],
     ) -> Result<u64, imgproc::Refusal> {
-        let call = match self.kind {
-            Kind::Erode => ours::grayscale_erode_into,
-            Kind::Dilate => ours::grayscale_dilate_into,
-            Kind::Open => ours::grayscale_open_into,
-            Kind::Close => ours::grayscale_close_into,
-        };
-        call(src, s, dst, d, self.kernel_size, workspace)
+        self.kind.safe()(src, s, dst, d, self.kernel_size, workspace)
     }
 
     fn rust(&self, src: Gray8View<'_>, dst: Gray8ViewMut<'_>) -> ImgProcResult<()> {
@@ -120,12 +128,18 @@ fn kernel(rng: &mut Rng) -> usize {
     }
 }
 
-fn random(run: &mut Run, rng: &mut Rng, kind: Kind) -> Checked {
+/// Returns a kernel, a width and a height. At times the kernel is just below, at or just above the one that reaches
+/// over a whole side.
+pub fn shape(rng: &mut Rng) -> (usize, usize, usize) {
     let kernel_size = kernel(rng);
     let (width, height) = sides(rng, kernel_size);
-    // Takes a kernel just below, at or just above the one that reaches over a whole side.
     let kernel_size =
         if rng.one_in(8) { (2 * width.max(height) + 1).saturating_sub(2 * rng.below(3)).max(3) } else { kernel_size };
+    (kernel_size, width, height)
+}
+
+fn random(run: &mut Run, rng: &mut Rng, kind: Kind) -> Checked {
+    let (kernel_size, width, height) = shape(rng);
     run.case(&Through::random(rng, Morphology { kind, kernel_size }, width, height))
 }
 
