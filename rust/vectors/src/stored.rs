@@ -70,6 +70,17 @@ fn stripes(width: usize, height: usize) -> Vec<u8> {
     (0..width * height).map(|i| if i % width % 4 < 2 { 0 } else { 255 }).collect()
 }
 
+/// Returns three equal rows.
+fn rows(row: &[u8], stride: usize) -> Picture {
+    Picture::new(row.len(), 3, stride, 0, &row.repeat(3))
+}
+
+/// Returns three equal columns.
+fn columns(column: &[u8], stride: usize) -> Picture {
+    let pixels: Vec<u8> = column.iter().flat_map(|&sample| [sample; 3]).collect();
+    Picture::new(3, column.len(), stride, 0, &pixels)
+}
+
 pub fn morphology() -> List {
     let head =
         "Erosion, dilation, opening and closing, calls 9 to 12: both pictures' sides and strides, kernel; comparisons.";
@@ -93,6 +104,16 @@ pub fn morphology() -> List {
     four(l, "two columns, a kernel above the width alone", &Picture::new(2, 9, 3, 0, &noise(18, 7)), 4, 1, 5);
     four(l, "upright stripes, two wide", &Picture::new(9, 6, 10, 5, &stripes(9, 6)), 9, 0, 3);
     four(l, "two rows, a kernel above the height alone", &Picture::new(12, 2, 12, 0, &noise(24, 8)), 13, 2, 7);
+    let [dark, light] = [[0, 7, 7, 7], [7, 0, 0, 0]];
+    four(l, "a row that closes below the source", &Picture::row(&light), 4, 0, 3);
+    four(l, "rows that open above the source, near a border in x alone", &rows(&dark, 5), 4, 1, 3);
+    four(l, "rows that close below it there", &rows(&light, 4), 6, 0, 3);
+    four(l, "columns that open above the source, near a border in y alone", &columns(&dark, 4), 3, 0, 3);
+    four(l, "columns that close below it there", &columns(&light, 3), 5, 2, 3);
+    let slope = [8, 6, 4, 6, 8, 7, 9, 9, 1, 4, 4, 7, 5, 2, 1, 3, 5, 4, 3, 3];
+    four(l, "a slope", &Picture::new(5, 4, 6, 0, &slope), 5, 0, 3);
+    let cut = slope.map(|sample| if sample <= 3 { 0 } else { 255 });
+    four(l, "and its cut at 3", &Picture::new(5, 4, 5, 1, &cut), 7, 0, 3);
     list
 }
 
