@@ -119,8 +119,8 @@ same-picture (suc w) h p q l m each =
     is-plane (suc w) h (pixel q (suc w)) p (omega arith) l each
     ∙ sym (is-plane (suc w) h (pixel q (suc w)) q (omega arith) m (λ x y X Y. refl))
 
--- f keeps the order R
-abbrev Keeps : (ℕ → ℕ → Type 0) → (ℕ → ℕ) → Type 0
+-- a map keeps the order R
+abbrev pub Keeps : (ℕ → ℕ → Type 0) → (ℕ → ℕ) → Type 0
 Keeps R f = (a b : ℕ) → R a b → R (f a) (f b)
 
 -- a map that keeps the order commutes with a sweep: the extreme, mapped, is the extreme of the mapped samples
