@@ -3,7 +3,7 @@
 use mathlib.Core.Path.{_≡_, ap}
 use mathlib.Core.Bool.{Bool, true, false, cond}
 use mathlib.Core.List.{List}
-use Prim.Native.Nat.{ℕ, _+_, _-_, _*_, _/_, _≤_, _<_, min, max}
+use Prim.Native.Nat.{ℕ, _+_, _-_, _*_, _/_, _≤_, _<_, min}
 use native.Mathlib.Nat.{div-add-mod}
 use native.Mathlib.Omega.{arith}
 use lib.ListN.{length}
@@ -13,7 +13,7 @@ use Rattle.imgproc.specs.Fold.{foldBox}
 use Rattle.imgproc.specs.Extremes.{Extreme, Order, Inside, Some, fold-box-extreme, is-fold-box}
 use Rattle.imgproc.specs.Reach.{low, high, radius, oneBlock, reachFrom, reachTo, reachBox}
 use Rattle.imgproc.specs.Walks.{sweep-walks}
-use Rattle.imgproc.specs.Morphology.{sweptRect, eroded, dilated}
+use Rattle.imgproc.specs.Morphology.{sweptRect}
 use Rattle.imgproc.specs.declared.morphology.Operation.{Operation}
 use Rattle.imgproc.specs.declared.morphology.Operation.the-variants.{Erode, Dilate, Open, Close}
 use Rattle.imgproc.specs.MorphologyCalls.{operated, operationWalks, operationR}
@@ -43,10 +43,10 @@ unfolding sweptRect
 length-swept op kw kh w h p = length-plane w h (λ x y. foldBox op (pixel p w) (reachBox kw kh w h x y))
 
 pub length-operated : (operation : Operation) (k w h : ℕ) (p : List ℕ) → length (operated operation k w h p) ≡ w * h
-length-operated Erode k w h p = length-swept min k k w h p
-length-operated Dilate k w h p = length-swept max k k w h p
-length-operated Open k w h p = length-swept max k k w h (eroded k w h p)
-length-operated Close k w h p = length-swept min k k w h (dilated k w h p)
+length-operated Erode k w h p = length-swept _ _ _ w h _
+length-operated Dilate k w h p = length-swept _ _ _ w h _
+length-operated Open k w h p = length-swept _ _ _ w h _
+length-operated Close k w h p = length-swept _ _ _ w h _
 
 module _ {R : ℕ → ℕ → Type 0} {op : ℕ → ℕ → ℕ} (o : Order R op)
     (kw kh w h : ℕ) (X : 0 < kw) (Y : 0 < kh) (p : List ℕ) where

@@ -6,14 +6,13 @@ use native.Mathlib.Omega.{arith}
 use mathlib.Core.Path.{_≡_, sym, ap, ap₂, _∙_, subst}
 use mathlib.Core.Bool.{false}
 use mathlib.Core.List.{List, map}
-use lib.Dec.{ltb}
 use lib.ListN.{length, length-map}
 use Rattle.image.specs.Plane.{pixel, packed}
 use Rattle.image.specs.PlaneLaws.{packed-is}
 use Rattle.image.specs.Views.{pixel-picture, length-picture}
 use Rattle.imgproc.specs.declared.morphology.Operation.{Operation}
 use Rattle.imgproc.specs.declared.morphology.Operation.the-variants.{Open, Close}
-use Rattle.imgproc.specs.declared.ImgProcError.the-variants.{InvalidKernel, WorkspaceTooSmall}
+use Rattle.imgproc.specs.declared.ImgProcError.the-variants.{InvalidKernel}
 use Rattle.imgproc.specs.Refusals.{refusedIf, badKernel}
 use Rattle.imgproc.specs.RefusalLaws.{both-accepted, not-refused, kernel-says, kernel-odd}
 use Rattle.imgproc.specs.Extremes.{Low, High}
@@ -47,8 +46,7 @@ module _ (operation : Operation) (a : AcceptedCall (morphology operation)) where
   kernel-fine : badKernel (settingsOf a) ≡ false
   kernel-fine =
       let kernel = refusedIf (badKernel (settingsOf a)) InvalidKernel in
-      let room = refusedIf (ltb (length (a .lent .workspace)) (6 * (wide a * high a))) WorkspaceTooSmall in
-      not-refused (badKernel (settingsOf a)) InvalidKernel (both-accepted kernel room (own-accepted a) .0)
+      not-refused (badKernel (settingsOf a)) InvalidKernel (both-accepted kernel _ (own-accepted a) .0)
 
   -- what holds between the picture that it makes and its source holds between what it left and what was lent
   left-before : (R : ℕ → ℕ → Type 0) {rx ry : ℕ}

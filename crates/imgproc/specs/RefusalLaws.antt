@@ -146,13 +146,11 @@ module _ (len : ℕ) (g : Geometry) where
 
 -- a kernel that was not refused is 3 at least
 pub kernel-says : (k : ℕ) → badKernel k ≡ false → 3 ≤ k
-kernel-says k p = ltb-false k 3 (neither (ltb k 3) (eqb (k % 2) 0) p .0)
+kernel-says k p = ltb-false k 3 (neither (ltb k 3) _ p .0)
 
 -- and odd
 pub kernel-odd : (k : ℕ) → badKernel k ≡ false → k % 2 ≡ 1
-kernel-odd k p =
-    let odd = pos-of-ne-zero (eqb-false (k % 2) 0 (neither (ltb k 3) (eqb (k % 2) 0) p .1)) in
-    omega arith
+kernel-odd k p = omega (arith, eqb-false (k % 2) _ (neither (ltb k 3) _ p .1))
 
 -- nor is the element of accepted settings below 3, and their floor is not 0
 pub division-says : (d : BackgroundDivideConfig) → first (divisionSettings d) ≡ Accepted

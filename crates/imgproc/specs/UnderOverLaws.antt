@@ -9,7 +9,7 @@ use native.Mathlib.Nat.{le-trans, le-of-suc-le-suc, not-suc-le-zero, zero-mul}
 use native.Mathlib.Omega.{arith}
 use lib.ListN.{length, getD, length-map}
 use lib.Seq.{ext-getD}
-use borrow.Author.Tests.{eqb-true, le-leb, leb-true}
+use borrow.Author.Tests.{eqb-true, le-leb, lt-leb, leb-true}
 use Rattle.image.specs.Plane.{pixel}
 use Rattle.image.specs.PlaneLaws.{in-plane, is-plane}
 use Rattle.imgproc.specs.Extremes.{Extreme, Order, High, lowest, highest, Between, Inside, Near, unique}
@@ -186,17 +186,26 @@ module _ (f : ℕ → ℕ) (monotone : Monotone f) (k w h : ℕ) (K : 0 < k) whe
 
 -- ---- cuts
 
--- a choice of the lower number where a test holds: if the first test holds wherever the second does, the first choice is
--- not above the second
-choice : {low high : ℕ} → low ≤ high → {s t : Bool} → (t ≡ true → s ≡ true) → cond s low high ≤ cond t low high
-choice l {s = true} {t = true} h = omega arith
-choice l {s = true} {t = false} h = l
-choice l {s = false} {t = true} h = let e = h refl in let z : _≡_ {A = ℕ} 0 1 = cc in absurd (omega arith)
-choice l {s = false} {t = false} h = omega arith
+-- what a cut is: 0 at or below the level
+pub cut-at : (level v : ℕ) → v ≤ level → cut level v ≡ 0
+cut-at level v l = rw (le-leb v level l)
+
+-- and 255 above it
+pub cut-above : (level v : ℕ) → level < v → cut level v ≡ 255
+cut-above level v l = rw (lt-leb v level l)
+
+-- of two choices the first is not above the second, if its test holds wherever the second's does and no number that may
+-- then be chosen is above the other's
+choice : {l h l′ h′ : ℕ} → l ≤ l′ → l ≤ h′ → h ≤ h′ → {s t : Bool} → (t ≡ true → s ≡ true) → cond s l h ≤ cond t l′ h′
+choice low across high {s = true} {t = true} i = low
+choice low across high {s = true} {t = false} i = across
+choice low across high {s = false} {t = true} i = let e = i refl in let z : _≡_ {A = ℕ} 0 1 = cc in absurd (omega arith)
+choice low across high {s = false} {t = false} i = high
 
 -- a cut is monotone: what lies at or below a sample that is at or below the level is so too
 pub cut-monotone : (level : ℕ) → Monotone (cut level)
-cut-monotone level a b l = choice (omega arith) (λ e. le-leb a level (le-trans l (leb-true b level e)))
+cut-monotone level a b l =
+    choice (omega arith) (omega arith) (omega arith) (λ e. le-leb a level (le-trans l (leb-true b level e)))
 
 -- so cutting and then eroding, dilating, opening or closing is doing it and then cutting
 module _ (level k w h : ℕ) (K : 0 < k) where
