@@ -40,40 +40,42 @@ enum Law {
     Mapped(fn(u8, u8) -> u8),
 }
 
+/// A law claimed of calls.
 struct Claim {
     name: &'static str,
-    kind: Kind,
+    kinds: &'static [Kind],
     law: Law,
 }
 
-const fn claim(name: &'static str, kind: Kind, law: Law) -> Claim {
-    Claim { name, kind, law }
-}
+const FOUR: &[Kind] = &[Erode, Dilate, Open, Close];
 
 const LAWS: &[Claim] = &[
-    claim("opening at most the source", Open, Inner(|r| r, |left, source| left <= source)),
-    claim("closing at least the source", Close, Inner(|r| r, |left, source| left >= source)),
-    claim("erosion of a cut", Erode, Mapped(cut)),
-    claim("dilation of a cut", Dilate, Mapped(cut)),
-    claim("opening of a cut", Open, Mapped(cut)),
-    claim("closing of a cut", Close, Mapped(cut)),
-    claim("opening of a darkened picture", Open, Mapped(darkened)),
-    claim("closing of a darkened picture", Close, Mapped(darkened)),
+    Claim { name: "at most the source", kinds: &[Open], law: Inner(|r| r, |left, source| left <= source) },
+    Claim { name: "at least the source", kinds: &[Close], law: Inner(|r| r, |left, source| left >= source) },
+    Claim { name: "of a cut", kinds: FOUR, law: Mapped(cut) },
+    Claim { name: "of a darkened picture", kinds: FOUR, law: Mapped(darkened) },
 ];
 
 /// Claims that are false.
 const FALSE: &[Claim] = &[
-    claim("opening at most the source, one pixel nearer", Open, Inner(|r| r - 1, |left, source| left <= source)),
-    claim("closing at least the source, one pixel nearer", Close, Inner(|r| r - 1, |left, source| left >= source)),
-    claim("opening at least the source", Open, Inner(|r| r, |left, source| left >= source)),
-    claim("closing at most the source", Close, Inner(|r| r, |left, source| left <= source)),
-    claim("erosion of a reversed cut", Erode, Mapped(reversed)),
-    claim("dilation of a reversed cut", Dilate, Mapped(reversed)),
-    claim("opening of a reversed cut", Open, Mapped(reversed)),
-    claim("closing of a reversed cut", Close, Mapped(reversed)),
-    claim("opening of a cut of one level alone", Open, Mapped(alone)),
-    claim("closing of a cut of one level alone", Close, Mapped(alone)),
+    Claim { name: "at most, nearer", kinds: &[Open], law: Inner(|r| r - 1, |left, source| left <= source) },
+    Claim { name: "at least, nearer", kinds: &[Close], law: Inner(|r| r - 1, |left, source| left >= source) },
+    Claim { name: "at least the source", kinds: &[Open], law: Inner(|r| r, |left, source| left >= source) },
+    Claim { name: "at most the source", kinds: &[Close], law: Inner(|r| r, |left, source| left <= source) },
+    Claim { name: "of a reversed cut", kinds: FOUR, law: Mapped(reversed) },
+    Claim { name: "of a cut of one level alone", kinds: FOUR, law: Mapped(alone) },
 ];
+
+impl Claim {
+    fn of(&self, kind: Kind) -> String {
+        format!("{kind:?} {}", self.name)
+    }
+}
+
+/// Returns each claim with each call that it is made of.
+fn each(claims: &'static [Claim]) -> impl Iterator<Item = (&'static Claim, Kind)> {
+    claims.iter().flat_map(|claim| claim.kinds.iter().map(move |&kind| (claim, kind)))
+}
 
 /// 0 at or below the level, else 255.
 fn cut(level: u8, sample: u8) -> u8 {
@@ -137,60 +139,55 @@ impl Trial {
     }
 }
 
-impl Claim {
-    /// Returns the destination after the call.
-    fn called(&self, (src, s): &Picture, mut dst: Picture, kernel_size: usize) -> Result<Picture, String> {
-        let mut workspace = u8::noise(workspace_len(s.width, s.height), needed(*s) as u64);
-        match self.kind.safe()(src, *s, &mut dst.0, dst.1, kernel_size, &mut workspace) {
-            Ok(_) => Ok(dst),
-            Err(refusal) => Err(format!("{}: refused, {refusal}", self.name)),
-        }
-    }
+/// Returns the destination after a call, which has to be accepted.
+fn called(kind: Kind, (src, s): &Picture, mut dst: Picture, kernel_size: usize) -> Picture {
+    let mut workspace = u8::noise(workspace_len(s.width, s.height), needed(*s) as u64);
+    let answer = kind.safe()(src, *s, &mut dst.0, dst.1, kernel_size, &mut workspace);
+    answer.unwrap_or_else(|refusal| panic!("{kind:?} with kernel {kernel_size}: refused, {refusal}"));
+    dst
+}
 
-    /// Returns at how many pixels the claim was checked, or else the first at which it is false.
-    fn held(&self, trial: &Trial) -> Result<u64, String> {
-        let (_, g) = trial.source;
-        let left = self.called(&trial.source, trial.first.clone(), trial.kernel_size)?;
-        match self.law {
+/// Returns the number of places, or else tells of the first at which the test fails.
+fn counted(
+    mut places: impl Iterator<Item = (usize, usize)>, holds: impl Fn(usize, usize) -> bool,
+) -> Result<u64, String> {
+    places.try_fold(0, |count, (x, y)| if holds(x, y) { Ok(count + 1) } else { Err(format!("false at ({x}, {y})")) })
+}
+
+impl Law {
+    /// Returns at how many pixels the law was checked, or else tells of the first at which it is false.
+    fn held(&self, kind: Kind, trial: &Trial) -> Result<u64, String> {
+        let (source, g) = (&trial.source, trial.source.1);
+        let left = called(kind, source, trial.first.clone(), trial.kernel_size);
+        match self {
             Inner(margin, holds) => {
                 let margin = margin((trial.kernel_size - 1) / 2);
-                let at = pixels(g).filter(|&(x, y)| inner(margin, g.width, x) && inner(margin, g.height, y));
-                self.checked(trial, at, |x, y| holds(pixel(&left, x, y), pixel(&trial.source, x, y)))
+                let places = pixels(g).filter(|&(x, y)| inner(margin, g.width, x) && inner(margin, g.height, y));
+                counted(places, |x, y| holds(pixel(&left, x, y), pixel(source, x, y)))
             }
             Mapped(map) => {
                 let mut mapped = trial.mapped.clone();
                 for (x, y) in pixels(g) {
-                    mapped.0[y * mapped.1.stride + x] = map(trial.level, pixel(&trial.source, x, y));
+                    mapped.0[y * mapped.1.stride + x] = map(trial.level, pixel(source, x, y));
                 }
-                let second = self.called(&mapped, trial.second.clone(), trial.kernel_size)?;
-                self.checked(trial, pixels(g), |x, y| pixel(&second, x, y) == map(trial.level, pixel(&left, x, y)))
+                let second = called(kind, &mapped, trial.second.clone(), trial.kernel_size);
+                counted(pixels(g), |x, y| pixel(&second, x, y) == map(trial.level, pixel(&left, x, y)))
             }
         }
-    }
-
-    fn checked(
-        &self, trial: &Trial, at: impl Iterator<Item = (usize, usize)>, holds: impl Fn(usize, usize) -> bool,
-    ) -> Result<u64, String> {
-        let mut count = 0;
-        for (x, y) in at {
-            if !holds(x, y) {
-                return Err(format!("{}: false at ({x}, {y})\n{}", self.name, trial.tell()));
-            }
-            count += 1;
-        }
-        Ok(count)
     }
 }
 
-/// The trials of each law, and the pixels at which it was checked.
+/// The trials of each law, and the pixels at which it was checked, by its name and call.
 #[derive(Default)]
-pub struct Counts(BTreeMap<&'static str, (u64, u64)>);
+pub struct Counts(BTreeMap<String, (u64, u64)>);
 
 impl Counts {
     fn every_law(&mut self, trial: &Trial) -> Checked {
-        for law in LAWS {
-            let pixels = law.held(trial).map_err(Difference)?;
-            let count = self.0.entry(law.name).or_default();
+        for (claim, kind) in each(LAWS) {
+            let name = claim.of(kind);
+            let told = |what| Difference(format!("{name}: {what}\n{}", trial.tell()));
+            let pixels = claim.law.held(kind, trial).map_err(told)?;
+            let count = self.0.entry(name).or_default();
             *count = (count.0 + 1, count.1 + pixels);
         }
         Ok(())
@@ -226,11 +223,11 @@ impl Counts {
     /// Prints the counts, and checks that each law was checked at a pixel.
     pub fn table(&self) -> Result<(), String> {
         println!("| law | pictures | pixels |\n|---|---|---|");
-        for law in LAWS {
-            let (pictures, pixels) = self.0.get(law.name).copied().unwrap_or_default();
-            println!("| {} | {pictures} | {pixels} |", law.name);
+        for name in each(LAWS).map(|(claim, kind)| claim.of(kind)) {
+            let (pictures, pixels) = self.0.get(&name).copied().unwrap_or_default();
+            println!("| {name} | {pictures} | {pixels} |");
             if pixels == 0 {
-                return Err(format!("{} was checked at no pixel", law.name));
+                return Err(format!("{name} was checked at no pixel"));
             }
         }
         Ok(())
@@ -239,11 +236,11 @@ impl Counts {
 
 /// Refutes each false claim by a random trial, and returns how many there are.
 pub fn refuted(seed: u64) -> Result<usize, String> {
-    for claim in FALSE {
+    for (claim, kind) in each(FALSE) {
         let mut rng = Rng::new(seed);
-        if !(0..TRIALS).any(|_| claim.held(&Trial::random(&mut rng)).is_err()) {
-            return Err(format!("self-test: {} was not refuted", claim.name));
+        if (0..TRIALS).all(|_| claim.law.held(kind, &Trial::random(&mut rng)).is_ok()) {
+            return Err(format!("self-test: {} was not refuted", claim.of(kind)));
         }
     }
-    Ok(FALSE.len())
+    Ok(each(FALSE).count())
 }
