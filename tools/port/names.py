@@ -3,7 +3,7 @@
 crates/, README.md, docs/ and tools/. Run once, after the kit's port.py; docs/PORT.md says when. With --say it only prints
 what it would rename.
 
-Words are in snake case. A dash stays in a name only where it joins two names of definitions, as in `length-packed`."""
+Words are in snake case. A dash stays in a name only after a word of the library, as in `length-packed`."""
 import collections
 import os
 import re
@@ -12,8 +12,8 @@ import sys
 ROOT = os.path.dirname(os.path.dirname(os.path.dirname(os.path.abspath(__file__))))
 NAME = re.compile(r"[A-Za-z0-9_«»₀-₉']+(?:-[A-Za-z0-9_«»₀-₉']+)*")
 HEAD = re.compile(r"^(\s*)((?:(?:unfoldable|abbrev|pub|data|record|ruleset) )*)([^\s:(){}.,]+)((?: \(.*?\)| \{.*?\})*)\s*:(\s|$)")
-# Words of the library that own lemmas speak of.
-LIBRARY = set("length take drop set mul div add sub sum append map tabulate get_or".split())
+# Words of the library that lemmas of this repository speak of.
+LIBRARY = {"length", "get_or"}
 # names.txt: new names where the rule would let two names fall together, and variables that have no definition.
 OTHER = {}
 OTHER_FILE = os.path.join(os.path.dirname(os.path.abspath(__file__)), "names.txt")
@@ -64,8 +64,7 @@ def snake(name, known):
     pieces = parts.split("-")
     text = pieces[0]
     for at in range(1, len(pieces)):
-        joins = pieces[at] in known and text.split("-")[-1] in known and at == 1 and len(pieces) == 2
-        text += ("-" if joins else "_") + pieces[at]
+        text += ("-" if at == 1 and pieces[0] in known else "_") + pieces[at]
     return text
 
 
@@ -76,8 +75,7 @@ def mapping():
             if line.strip():
                 old, new = line.split()
                 OTHER[old] = new
-    known = {snake(n, set()) for n in words if "-" not in n and re.search(r"^(unfoldable |abbrev )", "abbrev ")}
-    known = {n for n in known if n not in ("at", "from", "is", "to", "by", "as", "in", "of", "one", "both", "none", "k", "s", "q")} | LIBRARY
+    known = LIBRARY
     turned = {}
     for name in list(words) + list(fields):
         new = OTHER.get(name, snake(name, known))

@@ -8,7 +8,7 @@ use mathlib.Core.List.{List, ◌++◌}
 use Rattle.pgm.specs.declared.Parsed.{Parsed}
 use Rattle.pgm.specs.declared.Parsed.TheVariants.{Picture, Malformed}
 use Rattle.pgm.specs.Form.{header, Form, input_limit, parsed_number, Answers}
-use Rattle.pgm.specs.FormLaws.{after-header}
+use Rattle.pgm.specs.FormLaws.{after_header}
 use Rattle.pgm.specs.Line.{line_room, refused_line, Writes}
 use Rattle.pgm.specs.ParseLaws.{parsed_by, start_parsed}
 use Rattle.answer.specs.Program.{picture_line, picture_marks, line_by, marks_by, program_line, program_marks}
@@ -17,11 +17,11 @@ use Rattle.answer.specs.Program.{Prints, ReadPart, PrintsStart}
 -- ---- the line and the marks by the form
 
 module _ (input : List ℕ) where
-  pub line-picture : (w h : ℕ) (f : Form input w h) → program_line input ≡ picture_line w h f.pixels
+  pub line_picture : (w h : ℕ) (f : Form input w h) → program_line input ≡ picture_line w h f.pixels
   unfolding program_line
-  line-picture w h f =
+  line_picture w h f =
       parsed_by line_by input (Picture w h (length (header w h))) (f, refl)
-      ∙ ap (picture_line w h) (after-header input w h f)
+      ∙ ap (picture_line w h) (after_header input w h f)
 
   pub line_other : Answers input Malformed → program_line input ≡ refused_line (parsed_number Malformed)
   unfolding program_line
@@ -35,14 +35,14 @@ module _ (input : List ℕ) where
       program_marks input dst ≡ picture_marks w h f.pixels dst
   marks_picture w h f dst =
       marks_by_lem (Picture w h (length (header w h))) (f, refl) dst
-      ∙ ap (λ (p : List ℕ). picture_marks w h p dst) (after-header input w h f)
+      ∙ ap (λ (p : List ℕ). picture_marks w h p dst) (after_header input w h f)
 
 -- ---- the first bytes are enough
 
 -- an input and its first 3,614 bytes, or more of them, have the same line
-pub line-start : (input : List ℕ) (m : ℕ) → input_limit ≤ m → program_line (take m input) ≡ program_line input
+pub line_start : (input : List ℕ) (m : ℕ) → input_limit ≤ m → program_line (take m input) ≡ program_line input
 unfolding program_line
-line-start input m enough = start_parsed input m enough line_by (λ a b. refl)
+line_start input m enough = start_parsed input m enough line_by (λ a b. refl)
 
 -- a line that is written into a buffer with room for any line is printed
 pub printed : (text before : List ℕ) {n : ℕ} (after : List ℕ) → line_room ≤ length before → Writes text before n after →

@@ -12,7 +12,7 @@ use Rattle.pgm.specs.Parse.{parsed_of}
 use Rattle.pgm.specs.ParseLaws.{parsed_answers}
 use Rattle.answer.specs.Answer.{settings, counts_line}
 use Rattle.answer.specs.Program.{empty, program_line}
-use Rattle.answer.specs.ProgramLaws.{line-picture, line_other}
+use Rattle.answer.specs.ProgramLaws.{line_picture, line_other}
 
 -- the input is a picture with a zero side
 pub record IsEmpty (input : List ℕ) : Type 0 where
@@ -21,8 +21,8 @@ pub record IsEmpty (input : List ℕ) : Type 0 where
 
 -- what the program's line is, for every input: one of three
 pub record Answered (input : List ℕ) : Type 0 where
-  pub no-picture : (program_line input ≡ refused_line 11) ↔ (IsPicture input → ⊥)
-  pub empty-picture : (program_line input ≡ refused_line 1) ↔ IsEmpty input
+  pub no_picture : (program_line input ≡ refused_line 11) ↔ (IsPicture input → ⊥)
+  pub empty_picture : (program_line input ≡ refused_line 1) ↔ IsEmpty input
   pub picture :
       (w h : ℕ) (f : Form input w h) → 0 < w → 0 < h →
       let c = reading_of settings w h f.pixels in
@@ -49,7 +49,7 @@ module _ (input : List ℕ) where
   by_sides : (w h : ℕ) (f : Form input w h) (b : Bool) → empty w h ≡ b →
       program_line input ≡ cond b (refused_line 1) (counts_line w h (reading_of settings w h f.pixels))
   by_sides w h f b e =
-      line-picture input w h f
+      line_picture input w h f
       ∙ ap (λ (c : Bool). cond c (refused_line 1) (counts_line w h (reading_of settings w h f.pixels))) e
 
   -- the program refuses with no number but 11, an input that is no picture, and 1, a picture with a zero side
@@ -76,11 +76,11 @@ module _ (input : List ℕ) where
   -- the program's line is as `Answered` says
   pub answered : Answered input
   answered = record {
-    no-picture = (
+    no_picture = (
       λ e. ⊎_elim (λ p. p.1) (λ p. absurd (omega (arith, p.0))) (refused_only 11 e),
       λ none. line_other input (λ w h f. none (record { width = w; height = h; form = f })),
     );
-    empty-picture = (
+    empty_picture = (
       λ e. ⊎_elim (λ p. absurd (omega (arith, p.0))) (λ p. p.1) (refused_only 1 e),
       λ z.
           let p = z.picture in

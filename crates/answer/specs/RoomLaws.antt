@@ -17,16 +17,16 @@ use Rattle.imgproc.specs.Refusals.{
   sauvola_settings,
   table_entries,
 }
-use Rattle.imgproc.specs.RefusalLaws.{then_accepted, passes-last, source-refused, pair-taken}
+use Rattle.imgproc.specs.RefusalLaws.{then_accepted, passes_last, source_refused, pair_taken}
 use Rattle.imgproc.specs.Reading.{reading_settings, reading_bytes, reading_u64s, reading_room}
 use Rattle.pgm.specs.Form.{side_limit}
 use Rattle.answer.specs.Answer.{settings, tight}
 use Rattle.answer.specs.Program.{empty, most_pixels, most_tiles, most_bytes, most_u64s}
 
 -- the program's settings are accepted
-settings-taken : first (reading_settings settings) ≡ Accepted
+settings_taken : first (reading_settings settings) ≡ Accepted
 unfolding first reading_settings division_settings grid_settings sauvola_settings
-settings-taken = refl
+settings_taken = refl
 
 module _ (w h : ℕ) (W : 0 < w) (H : 0 < h) (ww : w ≤ side_limit) (hh : h ≤ side_limit) where
   -- such a picture has no more pixels, tiles and table entries than the largest
@@ -56,26 +56,26 @@ module _ (w h : ℕ) (W : 0 < w) (H : 0 < h) (ww : w ≤ side_limit) (hh : h ≤
       omega (arith, mul-le-mul {n₁ = w + 1} {m₁ = h + 1} {n₂ = side} {m₂ = side} (omega arith) (omega arith))
 
   -- its reading is accepted with the program's buffers
-  pub room-enough : (pixels dst bytes u64s : ℕ) →
+  pub room_enough : (pixels dst bytes u64s : ℕ) →
       w * h ≤ pixels → most_pixels ≤ dst → most_bytes ≤ bytes → most_u64s ≤ u64s →
       first
       (pair_conditions pixels (tight w h) dst (tight w h)
       then reading_settings settings
       then reading_room (tight w h) settings bytes u64s)
       ≡ Accepted
-  room-enough pixels dst bytes u64s p d b q =
+  room_enough pixels dst bytes u64s p d b q =
       let room = reading_room (tight w h) settings bytes u64s in
       then_accepted (pair_conditions pixels (tight w h) dst (tight w h)) (reading_settings settings then room)
-      (pair-taken (kept pixels p) (kept dst (omega (arith, area))) refl refl)
-      ∙ then_accepted (reading_settings settings) room settings-taken
-      ∙ passes-last _ _
+      (pair_taken (kept pixels p) (kept dst (omega (arith, area))) refl refl)
+      ∙ then_accepted (reading_settings settings) room settings_taken
+      ∙ passes_last _ _
       (rw (
         le-ltb bytes (reading_bytes settings.grid w h) (omega (arith, area, tiles)),
         le-ltb u64s (reading_u64s settings.grid w h) (omega (arith, entries, tiles)),
       ))
 
 -- a zero side is refused before all else
-pub empty-refused : (w h pixels dst : ℕ) (rest : Conditions) → empty w h ≡ true →
+pub empty_refused : (w h pixels dst : ℕ) (rest : Conditions) → empty w h ≡ true →
     first (pair_conditions pixels (tight w h) dst (tight w h) then rest) ≡ Refused (Image EmptyDimensions)
-empty-refused w h pixels dst rest e =
-    source-refused pixels (tight w h) dst (tight w h) rest (no_sides pixels (tight w h) e)
+empty_refused w h pixels dst rest e =
+    source_refused pixels (tight w h) dst (tight w h) rest (no_sides pixels (tight w h) e)

@@ -5,9 +5,9 @@ use Rattle.std.proofs.Common.{ap, ap₂, ◌∙◌}
 use Rattle.pgm.specs.declared.Parsed.{Parsed}
 use Rattle.pgm.specs.declared.Parsed.TheVariants.{Picture, Malformed}
 use Rattle.pgm.specs.Form.{header, Form, input_limit, Answers}
-use Rattle.pgm.specs.FormLaws.{after-header}
+use Rattle.pgm.specs.FormLaws.{after_header}
 use Rattle.pgm.specs.ParseLaws.{parsed_by, start_parsed}
-use Rattle.answer.specs.ProgramLaws.{line-start}
+use Rattle.answer.specs.ProgramLaws.{line_start}
 use Rattle.column.specs.Drawing.{picture_rows, rows_by, program_rows, program_drawing}
 
 -- the rows are those of any r that meets `Answers`
@@ -18,7 +18,7 @@ rows_by_lem input r a = parsed_by rows_by input r a
 -- the rows of an input that is a picture are the picture's
 pub rows_picture : (input : List ℕ) (w h : ℕ) (f : Form input w h) → program_rows input ≡ picture_rows w h f.pixels
 rows_picture input w h f =
-    rows_by_lem input (Picture w h (length (header w h))) (f, refl) ∙ ap (picture_rows w h) (after-header input w h f)
+    rows_by_lem input (Picture w h (length (header w h))) (f, refl) ∙ ap (picture_rows w h) (after_header input w h f)
 
 -- an input that is no picture has no rows
 pub rows_other : (input : List ℕ) → Answers input Malformed → program_rows input ≡ []
@@ -28,4 +28,4 @@ rows_other input none = rows_by_lem input Malformed none
 pub drawing_start : (input : List ℕ) (m : ℕ) → input_limit ≤ m → program_drawing (take m input) ≡ program_drawing input
 unfolding program_rows
 drawing_start input m enough =
-    ap₂ (λ (l r : List ℕ). l ++ r) (line-start input m enough) (start_parsed input m enough rows_by (λ a b. refl))
+    ap₂ (λ (l r : List ℕ). l ++ r) (line_start input m enough) (start_parsed input m enough rows_by (λ a b. refl))

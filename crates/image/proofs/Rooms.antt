@@ -28,8 +28,8 @@ module _ (len : ℕ) (g : Geometry) (at room : ℕ) {l : Layout} (is : l ≡ lay
     same_here = (kept_as len g v (sym is ∙ i)).1
 
     -- its area fits any number of the code
-    pub area-fits : v.width * v.height < 18446744073709551616
-    area-fits = omega (arith, area_small kept_here)
+    pub area_fits : v.width * v.height < 18446744073709551616
+    area_fits = omega (arith, area_small kept_here)
 
     there : copied_in (Valid v) at room ≡ copied_in (layout_of len g) at room
     there = ap (λ (k : Layout). copied_in k at room) (sym i ∙ is)

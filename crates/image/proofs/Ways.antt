@@ -26,9 +26,9 @@ module _ (len : ℕ) (g : Geometry) where
     no_height b = simp (ne_eqb g.width 0 a, eq-eqb g.height 0 b)
 
     module _ (b : g.height ≡ 0 → ⊥) where
-      pub short-stride : g.stride < g.width → Invalid StrideTooSmall ≡ layout_of len g
+      pub short_stride : g.stride < g.width → Invalid StrideTooSmall ≡ layout_of len g
       unfolding layout_of
-      short-stride s = simp (ne_eqb g.width 0 a, ne_eqb g.height 0 b, lt-ltb g.stride g.width s)
+      short_stride s = simp (ne_eqb g.width 0 a, ne_eqb g.height 0 b, lt-ltb g.stride g.width s)
 
       module _ (s : g.width ≤ g.stride) where
         short : len < needed_length g → Invalid BufferTooSmall ≡ layout_of len g
@@ -89,47 +89,47 @@ module _ (len : ℕ) (g : Geometry) where
 
 -- `check_pixel` and `check_row`, where l is the layout that the code holds
 module _ (len : ℕ) (g : Geometry) {l : Layout} (is : l ≡ layout_of len g) where
-  asked-refused : (b : Bool) {e : LumaError} → l ≡ Invalid e → l ≡ asked_for (layout_of len g) b
-  asked-refused b i = i ∙ ap (λ (k : Layout). asked_for k b) (sym i ∙ is)
+  asked_refused : (b : Bool) {e : LumaError} → l ≡ Invalid e → l ≡ asked_for (layout_of len g) b
+  asked_refused b i = i ∙ ap (λ (k : Layout). asked_for k b) (sym i ∙ is)
 
   same : {v : Geometry} → l ≡ Valid v → g ≡ v
   same {v} i = (kept_as len g v (sym is ∙ i)).1
 
-  asked-outside : (b : Bool) {v : Geometry} → l ≡ Valid v → b ≡ false → Invalid OutsidePicture ≡ asked_for (layout_of len g) b
-  asked-outside b {v} i o = ap (asked_for (Valid v)) (sym o) ∙ ap (λ (k : Layout). asked_for k b) (sym i ∙ is)
+  asked_outside : (b : Bool) {v : Geometry} → l ≡ Valid v → b ≡ false → Invalid OutsidePicture ≡ asked_for (layout_of len g) b
+  asked_outside b {v} i o = ap (asked_for (Valid v)) (sym o) ∙ ap (λ (k : Layout). asked_for k b) (sym i ∙ is)
 
-  asked-within : (b : Bool) {v : Geometry} → l ≡ Valid v → b ≡ true → Valid v ≡ asked_for (layout_of len g) b
-  asked-within b {v} i o = ap (asked_for (Valid v)) (sym o) ∙ ap (λ (k : Layout). asked_for k b) (sym i ∙ is)
+  asked_within : (b : Bool) {v : Geometry} → l ≡ Valid v → b ≡ true → Valid v ≡ asked_for (layout_of len g) b
+  asked_within b {v} i o = ap (asked_for (Valid v)) (sym o) ∙ ap (λ (k : Layout). asked_for k b) (sym i ∙ is)
 
   module _ (y : ℕ) where
-    pub row-refused : {e : LumaError} → l ≡ Invalid e → l ≡ row_layout len g y
-    row-refused i = asked-refused (ltb y g.height) i
+    pub row_refused : {e : LumaError} → l ≡ Invalid e → l ≡ row_layout len g y
+    row_refused i = asked_refused (ltb y g.height) i
 
-    pub row-outside : {v : Geometry} → l ≡ Valid v → v.height ≤ y → Invalid OutsidePicture ≡ row_layout len g y
-    row-outside i t = let h = ap (λ (k : Geometry). k.height) (same i) in asked-outside (ltb y g.height) i (le-ltb y g.height (omega arith))
+    pub row_outside : {v : Geometry} → l ≡ Valid v → v.height ≤ y → Invalid OutsidePicture ≡ row_layout len g y
+    row_outside i t = let h = ap (λ (k : Geometry). k.height) (same i) in asked_outside (ltb y g.height) i (le-ltb y g.height (omega arith))
 
     pub row_within : {v : Geometry} → l ≡ Valid v → y < v.height → Valid v ≡ row_layout len g y
-    row_within i t = let h = ap (λ (k : Geometry). k.height) (same i) in asked-within (ltb y g.height) i (lt-ltb y g.height (omega arith))
+    row_within i t = let h = ap (λ (k : Geometry). k.height) (same i) in asked_within (ltb y g.height) i (lt-ltb y g.height (omega arith))
 
   module _ (x y : ℕ) where
-    pub pixel-refused : {e : LumaError} → l ≡ Invalid e → l ≡ pixel_layout len g x y
-    pixel-refused i = asked-refused (ltb x g.width && ltb y g.height) i
+    pub pixel_refused : {e : LumaError} → l ≡ Invalid e → l ≡ pixel_layout len g x y
+    pixel_refused i = asked_refused (ltb x g.width && ltb y g.height) i
 
-    pub pixel-right : {v : Geometry} → l ≡ Valid v → v.width ≤ x → Invalid OutsidePicture ≡ pixel_layout len g x y
-    pixel-right i t =
+    pub pixel_right : {v : Geometry} → l ≡ Valid v → v.width ≤ x → Invalid OutsidePicture ≡ pixel_layout len g x y
+    pixel_right i t =
         let w = ap (λ (k : Geometry). k.width) (same i) in
-        asked-outside (ltb x g.width && ltb y g.height) i (rw (le-ltb x g.width (omega arith)))
+        asked_outside (ltb x g.width && ltb y g.height) i (rw (le-ltb x g.width (omega arith)))
 
     module _ {v : Geometry} (i : l ≡ Valid v) (t : x < v.width) where
       inside : ltb x g.width ≡ true
       inside = let w = ap (λ (k : Geometry). k.width) (same i) in lt-ltb x g.width (omega arith)
 
-      pub pixel-below : v.height ≤ y → Invalid OutsidePicture ≡ pixel_layout len g x y
-      pixel-below u =
+      pub pixel_below : v.height ≤ y → Invalid OutsidePicture ≡ pixel_layout len g x y
+      pixel_below u =
           let h = ap (λ (k : Geometry). k.height) (same i) in
-          asked-outside (ltb x g.width && ltb y g.height) i (rw (inside, le-ltb y g.height (omega arith)))
+          asked_outside (ltb x g.width && ltb y g.height) i (rw (inside, le-ltb y g.height (omega arith)))
 
-      pub pixel-within : y < v.height → Valid v ≡ pixel_layout len g x y
-      pixel-within u =
+      pub pixel_within : y < v.height → Valid v ≡ pixel_layout len g x y
+      pixel_within u =
           let h = ap (λ (k : Geometry). k.height) (same i) in
-          asked-within (ltb x g.width && ltb y g.height) i (rw (inside, lt-ltb y g.height (omega arith)))
+          asked_within (ltb x g.width && ltb y g.height) i (rw (inside, lt-ltb y g.height (omega arith)))

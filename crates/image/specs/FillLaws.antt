@@ -6,7 +6,7 @@ use Rattle.std.proofs.Math.Nat.{add-sub_cancel_left}
 use borrow.Rule.Slice.PartMut.{put_mid}
 use Rattle.image.specs.Plane.{plane, part, overwritten}
 use Rattle.image.specs.PlaneLaws.{length-plane, length_part, length-overwritten}
-use Rattle.image.specs.PaintLaws.{put_part, plane-start, plane-more}
+use Rattle.image.specs.PaintLaws.{put_part, plane_start, plane_more}
 
 -- row y of a packed plane lies in it
 pub row_in_plane : (w h y : ℕ) → y < h → y * w + w ≤ w * h
@@ -28,7 +28,7 @@ pub record Filled (w h : ℕ) (f : ℕ → ℕ → ℕ) (at : ℕ) (d l : List �
 module _ (w h : ℕ) (f : ℕ → ℕ → ℕ) (at : ℕ) (d : List ℕ) where
   -- the invariant holds before the first row
   pub fill_start : Filled w h f at d d 0
-  fill_start = record { upto = omega arith; is = sym (plane-start w f at d) }
+  fill_start = record { upto = omega arith; is = sym (plane_start w f at d) }
 
   module _ (room : at + w * h ≤ length d) {l : List ℕ} (y : ℕ) (o : Filled w h f at d l y) where
     -- what is written lies in the workspace
@@ -38,8 +38,8 @@ module _ (w h : ℕ) (f : ℕ → ℕ → ℕ) (at : ℕ) (d : List ℕ) where
         omega (arith, length-plane w y f, mul_comm w y, mul_comm w h, mul-le-mul_right {m = y} {n = h} w u)
 
     -- the workspace keeps its length
-    pub fill-same : length l ≡ length d
-    fill-same = ap length o.is ∙ length-overwritten at (plane w y f) d written
+    pub fill_same : length l ≡ length d
+    fill_same = ap length o.is ∙ length-overwritten at (plane w y f) d written
 
     -- after the last row it holds the whole plane
     pub fill_done : h ≤ y → l ≡ overwritten at (plane w h f) d
@@ -50,16 +50,16 @@ module _ (w h : ℕ) (f : ℕ → ℕ → ℕ) (at : ℕ) (d : List ℕ) where
 
     module _ (t : y < h) where
       -- row y lies in the workspace
-      pub fill-fits : at + y * w + w ≤ length l
-      fill-fits = omega (arith, fill-same, row_in_plane w h y t)
+      pub fill_fits : at + y * w + w ≤ length l
+      fill_fits = omega (arith, fill_same, row_in_plane w h y t)
 
       -- a row r of f's numbers, written as row y, carries the invariant on
-      pub fill-next : (r : List ℕ) → 0 < w → length r ≡ w → ((x : ℕ) → x < w → get_or r x 0 ≡ f x y)
+      pub fill_next : (r : List ℕ) → 0 < w → length r ≡ w → ((x : ℕ) → x < w → get_or r x 0 ≡ f x y)
           → Filled w h f at d (put_mid (at + y * w) (at + y * w + w - (at + y * w)) l r) (y + 1)
-      fill-next r W long each = record {
+      fill_next r W long each = record {
         upto = omega arith;
         is =
             put_row (at + y * w) w l r long
             ∙ ap (overwritten (at + y * w) r) o.is
-            ∙ plane-more w f y at d r W (omega (arith, row_in_plane w h y t)) long each;
+            ∙ plane_more w f y at d r W (omega (arith, row_in_plane w h y t)) long each;
       }

@@ -75,8 +75,8 @@ kept_valid {len} {g} k =
     )
 
 -- and it is not refused
-pub kept-taken : {len : ℕ} {g : Geometry} {e : LumaError} → Kept len g → layout_of len g ≡ Invalid e → ⊥
-kept-taken {len} {g} {e} k r = never e g (sym r ∙ kept_valid k)
+pub kept_taken : {len : ℕ} {g : Geometry} {e : LumaError} → Kept len g → layout_of len g ≡ Invalid e → ⊥
+kept_taken {len} {g} {e} k r = never e g (sym r ∙ kept_valid k)
 
 -- a side of 0 is refused before all else
 pub no_sides : (len : ℕ) (g : Geometry) → (eqb g.width 0 || eqb g.height 0) ≡ true
@@ -85,12 +85,12 @@ unfolding layout_of
 no_sides len g e = rw e
 
 -- two sides within the limit have an area within its limit
-pub sides-small : (a b : ℕ) → a ≤ side_limit → b ≤ side_limit → a * b ≤ area_limit
-sides-small a b A B = mul-le-mul {n₂ = side_limit} {m₂ = side_limit} A B
+pub sides_small : (a b : ℕ) → a ≤ side_limit → b ≤ side_limit → a * b ≤ area_limit
+sides_small a b A B = mul-le-mul {n₂ = side_limit} {m₂ = side_limit} A B
 
 -- so has a picture whose layout is valid
 pub area_small : {len : ℕ} {g : Geometry} → Kept len g → g.width * g.height ≤ area_limit
-area_small {len} {g} k = sides-small g.width g.height k.small_width k.small_height
+area_small {len} {g} k = sides_small g.width g.height k.small_width k.small_height
 
 -- row y ends within the slice
 pub row_within : {len : ℕ} {g : Geometry} → Kept len g → (y : ℕ) → y < g.height → y * g.stride + g.width ≤ len
@@ -99,21 +99,21 @@ row_within {len} {g} k y t =
     omega (arith, k.fits, mul_comm g.stride (g.height - 1))
 
 -- row y of a valid layout is not refused where y is below the height
-pub row-asked : {len : ℕ} {g : Geometry} → Kept len g → (y : ℕ) → y < g.height → row_layout len g y ≡ Valid g
-row-asked {len} {g} k y t = rw (kept_valid k, lt-ltb y g.height t)
+pub row_asked : {len : ℕ} {g : Geometry} → Kept len g → (y : ℕ) → y < g.height → row_layout len g y ≡ Valid g
+row_asked {len} {g} k y t = rw (kept_valid k, lt-ltb y g.height t)
 
 -- where a place is not refused, the layout is valid and the place lies in the picture
 module _ (len : ℕ) (g v : Geometry) where
-  asked-inside : (l : Layout) (b : Bool) → asked_for l b ≡ Valid v → (l ≡ Valid v) × (b ≡ true)
-  asked-inside (Valid u) true e = (e, refl)
-  asked-inside (Valid u) false e = absurd (never OutsidePicture v e)
-  asked-inside (Invalid r) b e = absurd (never r v e)
+  asked_inside : (l : Layout) (b : Bool) → asked_for l b ≡ Valid v → (l ≡ Valid v) × (b ≡ true)
+  asked_inside (Valid u) true e = (e, refl)
+  asked_inside (Valid u) false e = absurd (never OutsidePicture v e)
+  asked_inside (Invalid r) b e = absurd (never r v e)
 
   pub row_inside : (y : ℕ) → row_layout len g y ≡ Valid v → (Kept len g × (g ≡ v)) × (ltb y g.height ≡ true)
-  row_inside y e = let a = asked-inside (layout_of len g) (ltb y g.height) e in (kept_as len g v a.0, a.1)
+  row_inside y e = let a = asked_inside (layout_of len g) (ltb y g.height) e in (kept_as len g v a.0, a.1)
 
-  pub pixel-inside : (x y : ℕ) → pixel_layout len g x y ≡ Valid v
+  pub pixel_inside : (x y : ℕ) → pixel_layout len g x y ≡ Valid v
       → (Kept len g × (g ≡ v)) × ((ltb x g.width ≡ true) × (ltb y g.height ≡ true))
-  pixel-inside x y e =
-      let a = asked-inside (layout_of len g) (ltb x g.width && ltb y g.height) e in
+  pixel_inside x y e =
+      let a = asked_inside (layout_of len g) (ltb x g.width && ltb y g.height) e in
       (kept_as len g v a.0, both _ _ a.1)

@@ -11,12 +11,12 @@ use borrow.Rule.Slice.PartMut.{put_mid}
 use Rattle.image.specs.Plane.{pixel, plane, map_from, painted_at, painted, overwritten}
 use Rattle.image.specs.PlaneLaws.{
   length-plane,
-  pixel-plane,
+  pixel_plane,
   is_plane,
   length-overwritten,
-  overwritten-before,
-  overwritten-within,
-  overwritten-after,
+  overwritten_before,
+  overwritten_within,
+  overwritten_after,
 }
 
 -- a part from a to e that was lent to a call, and came back as r, is r written at a
@@ -44,24 +44,24 @@ module _ (p : List ℕ) (w h st : ℕ) (d : List ℕ) where
   length-painted = length-map_from (painted_at p w h st) d 0
 
   -- each byte after the call, by its place
-  pub painted-byte : (i : ℕ) → i < length d → get_or (painted p w h st d) i 0 ≡ painted_at p w h st i (get_or d i 0)
+  pub painted_byte : (i : ℕ) → i < length d → get_or (painted p w h st d) i 0 ≡ painted_at p w h st i (get_or d i 0)
   unfolding painted
-  painted-byte i l =
+  painted_byte i l =
       get_d_map_from (painted_at p w h st) d 0 i l ∙ ap (λ (n : ℕ). painted_at p w h st n (get_or d i 0)) (zero-add i)
 
   -- pixel (x, y) holds the picture's
-  pub painted-pixel : (x y : ℕ) → x < w → y < h → w ≤ st → y * st + x < length d
+  pub painted_pixel : (x y : ℕ) → x < w → y < h → w ≤ st → y * st + x < length d
       → get_or (painted p w h st d) (y * st + x) 0 ≡ pixel p w x y
-  painted-pixel x y a b c l =
+  painted_pixel x y a b c l =
       let xs : x < st = omega arith in
-      painted-byte (y * st + x) l ∙ simp (digits_mod y xs, digits_div y xs, lt-ltb x w a, lt-ltb y h b)
+      painted_byte (y * st + x) l ∙ simp (digits_mod y xs, digits_div y xs, lt-ltb x w a, lt-ltb y h b)
 
 -- painting no rows changes nothing
 pub painted_none : (p : List ℕ) (w st : ℕ) (d : List ℕ) → painted p w 0 st d ≡ d
 painted_none p w st d =
     ext_get_or 0 _ _ (length-painted p w 0 st d)
     (λ i l.
-    painted-byte p w 0 st d i (rw length-painted at l)
+    painted_byte p w 0 st d i (rw length-painted at l)
     ∙ none _ _ (ltb (i % st) w) (ltb (i / st) 0) (le-ltb (i / st) 0 (omega arith)))
   where
     none : (a b : ℕ) (s t : Bool) → t ≡ false → cond (s && t) a b ≡ b
@@ -80,15 +80,15 @@ module _ (p : List ℕ) (w st y : ℕ) (d r : List ℕ) (ws : w ≤ st) (sp : 0 
 
   -- a byte outside the row is as it was
   outside : (i : ℕ) → (i < y * st) ⊎ (y * st + w ≤ i) → get_or (overwritten (y * st) r before) i 0 ≡ get_or before i 0
-  outside i (inl t) = overwritten-before (y * st) r before (omega (arith, size)) i t
+  outside i (inl t) = overwritten_before (y * st) r before (omega (arith, size)) i t
   outside i (inr t) =
       let e : y * st + length r + (i - (y * st + length r)) ≡ i = omega arith in
-      rw e at (overwritten-after (y * st) r before (omega (arith, size)) (i - (y * st + length r)))
+      rw e at (overwritten_after (y * st) r before (omega (arith, size)) (i - (y * st + length r)))
 
   module _ (i : ℕ) (t : i < length d) where
     old : (i < y * st) ⊎ (y * st + w ≤ i) → get_or (overwritten (y * st) r before) i 0 ≡ painted_at p w y st i (get_or d i 0)
     unfolding before
-    old o = outside i o ∙ painted-byte p w y st d i t
+    old o = outside i o ∙ painted_byte p w y st d i t
 
     place : i / st * st + i % st ≡ i
     place = div-add-mod' i st
@@ -109,7 +109,7 @@ module _ (p : List ℕ) (w st y : ℕ) (d r : List ℕ) (ws : w ≤ st) (sp : 0 
     byte (yes a) (no b) (yes c) =
         let e : y * st + i % st ≡ i = ap (λ (n : ℕ). n * st + i % st) (sym c) ∙ place in
         ap (λ (n : ℕ). get_or (overwritten (y * st) r before) n 0) (sym e)
-        ∙ overwritten-within (y * st) r before (omega (arith, size)) (i % st) (omega arith)
+        ∙ overwritten_within (y * st) r before (omega (arith, size)) (i % st) (omega arith)
         ∙ is (i % st) a
         ∙ ap (λ (n : ℕ). pixel p w (i % st) n) (sym c)
         ∙ simp (lt-ltb _ _ a, lt-ltb (i / st) (y + 1) (omega arith))
@@ -119,14 +119,14 @@ module _ (p : List ℕ) (w st y : ℕ) (d r : List ℕ) (ws : w ≤ st) (sp : 0 
         old (inr (omega (arith, place, suc-mul y st, mul-le-mul_right st q)))
         ∙ simp (lt-ltb _ _ a, le-ltb (i / st) y (omega arith), le-ltb (i / st) (y + 1) (omega arith))
 
-  pub painted-row : overwritten (y * st) r (painted p w y st d) ≡ painted p w (y + 1) st d
+  pub painted_row : overwritten (y * st) r (painted p w y st d) ≡ painted p w (y + 1) st d
   unfolding before
-  painted-row =
+  painted_row =
       ext_get_or 0 _ _
       (length-overwritten (y * st) r before (omega (arith, size)) ∙ size ∙ sym (length-painted p w (y + 1) st d))
       (λ i l.
       let t : i < length d = omega (arith, length-overwritten (y * st) r before (omega (arith, size)), size) in
-      byte i t (dec_lt (i % st) w) (dec_lt (i / st) y) (ℕ_discrete (i / st) y) ∙ sym (painted-byte p w (y + 1) st d i t))
+      byte i t (dec_lt (i % st) w) (dec_lt (i / st) y) (ℕ_discrete (i / st) y) ∙ sym (painted_byte p w (y + 1) st d i t))
 
 -- ---- packed rows
 
@@ -136,9 +136,9 @@ plane_none w f =
     ext_get_or 0 _ _ (length-plane w 0 f ∙ mul-zero w) (λ i l. absurd (omega (arith, length-plane w 0 f, mul-zero w)))
 
 -- a plane of y rows, and row y after it, is a plane of y + 1 rows
-plane-row : (w : ℕ) (f : ℕ → ℕ → ℕ) (y : ℕ) (r : List ℕ) → 0 < w → length r ≡ w
+plane_row : (w : ℕ) (f : ℕ → ℕ → ℕ) (y : ℕ) (r : List ℕ) → 0 < w → length r ≡ w
     → ((x : ℕ) → x < w → get_or r x 0 ≡ f x y) → plane w y f ++ r ≡ plane w (y + 1) f
-plane-row w f y r W long is =
+plane_row w f y r W long is =
     is_plane w (y + 1) f (plane w y f ++ r) W
     (length-append (plane w y f) r
     ∙ omega (arith, length-plane w y f, mul_comm w y, mul_comm w (y + 1), suc-mul y w, add_one_mul))
@@ -160,13 +160,13 @@ plane-row w f y r W long is =
         ∙ ap (λ (n : ℕ). f x n) (sym e))
         (λ l.
         get_or-append (plane w y f) r 0 (q * w + x) (omega (arith, size, suc-mul q w, mul-le-mul_right w l))
-        ∙ pixel-plane w y f x q X l)
+        ∙ pixel_plane w y f x q X l)
         (eq-or-lt_of_le {n = q} {m = y} (omega arith))
 
 -- writing p, and then r right after it, is writing both at once
-pub overwritten-more : (at : ℕ) (p r d : List ℕ) → at + length p ≤ length d
+pub overwritten_more : (at : ℕ) (p r d : List ℕ) → at + length p ≤ length d
     → overwritten (at + length p) r (overwritten at p d) ≡ overwritten at (p ++ r) d
-overwritten-more at p r d fits =
+overwritten_more at p r d fits =
     let f = length-take-le at d (omega arith) in
     let total : at + length p + length r ≡ at + length (p ++ r) = omega (arith, length-append p r) in
     let n : length (take at d ++ p) ≡ at + length p = length-append (take at d) p ∙ omega arith in
@@ -183,15 +183,15 @@ overwritten-more at p r d fits =
     rw (front, back) (append_assoc (take at d) p _ ∙ ap (λ (k : List ℕ). take at d ++ k) (sym (append_assoc p r _)))
 
 -- writing a plane of no rows changes nothing
-pub plane-start : (w : ℕ) (f : ℕ → ℕ → ℕ) (at : ℕ) (d : List ℕ) → overwritten at (plane w 0 f) d ≡ d
-plane-start w f at d = rw (plane_none, add-zero) (take-append-drop at d)
+pub plane_start : (w : ℕ) (f : ℕ → ℕ → ℕ) (at : ℕ) (d : List ℕ) → overwritten at (plane w 0 f) d ≡ d
+plane_start w f at d = rw (plane_none, add-zero) (take-append-drop at d)
 
 -- writing row y right after the first y rows of a plane is writing y + 1 rows
-pub plane-more : (w : ℕ) (f : ℕ → ℕ → ℕ) (y at : ℕ) (d r : List ℕ) → 0 < w → at + (y * w + w) ≤ length d → length r ≡ w
+pub plane_more : (w : ℕ) (f : ℕ → ℕ → ℕ) (y at : ℕ) (d r : List ℕ) → 0 < w → at + (y * w + w) ≤ length d → length r ≡ w
     → ((x : ℕ) → x < w → get_or r x 0 ≡ f x y)
     → overwritten (at + y * w) r (overwritten at (plane w y f) d) ≡ overwritten at (plane w (y + 1) f) d
-plane-more w f y at d r W fits long is =
+plane_more w f y at d r W fits long is =
     let size : length (plane w y f) ≡ y * w = length-plane w y f ∙ mul_comm w y in
     ap (λ (n : ℕ). overwritten (at + n) r (overwritten at (plane w y f) d)) (sym size)
-    ∙ overwritten-more at (plane w y f) r d (omega arith)
-    ∙ ap (λ (p : List ℕ). overwritten at p d) (plane-row w f y r W long is)
+    ∙ overwritten_more at (plane w y f) r d (omega arith)
+    ∙ ap (λ (p : List ℕ). overwritten at p d) (plane_row w f y r W long is)

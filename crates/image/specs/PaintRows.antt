@@ -7,7 +7,7 @@ use Rattle.image.specs.declared.Geometry.{Geometry}
 use Rattle.image.specs.Layout.{Kept}
 use Rattle.image.specs.LayoutLaws.{row_within}
 use Rattle.image.specs.Plane.{pixel, painted, overwritten}
-use Rattle.image.specs.PaintLaws.{length-painted, painted_none, painted-row}
+use Rattle.image.specs.PaintLaws.{length-painted, painted_none, painted_row}
 use Rattle.image.specs.FillLaws.{put_row, lent_row}
 
 -- the first y rows of the packed picture p, of w by h, stand in the destination l, which was d
@@ -38,8 +38,8 @@ module _ (p : List ℕ) (w h st : ℕ) (d : List ℕ) where
       row_fits = omega (arith, rows_same)
 
       -- the part that is lent for it has the width
-      pub part-long : length (take (y * st + w - y * st) (drop (y * st) l)) ≡ w
-      part-long = lent_row (y * st) w l row_fits
+      pub part_long : length (take (y * st + w - y * st) (drop (y * st) l)) ≡ w
+      part_long = lent_row (y * st) w l row_fits
 
       -- a row r of the picture's pixels, written as row y, carries the invariant on
       pub rows_next :
@@ -53,7 +53,7 @@ module _ (p : List ℕ) (w h st : ℕ) (d : List ℕ) where
         is =
             put_row (y * st) w l r long
             ∙ ap (overwritten (y * st) r) o.is
-            ∙ painted-row p w st y d r ws (omega arith) fits long is;
+            ∙ painted_row p w st y d r ws (omega arith) fits long is;
       }
 
 -- row y lies in a destination whose sides are the picture's

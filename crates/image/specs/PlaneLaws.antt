@@ -48,8 +48,8 @@ unfolding plane
 get_d_plane w h f i t = get_d_tabulate (λ i. f (i % w) (i / w)) (w * h) i t
 
 -- its pixel (x, y) is f x y
-pub pixel-plane : (w h : ℕ) (f : ℕ → ℕ → ℕ) (x y : ℕ) → x < w → y < h → pixel (plane w h f) w x y ≡ f x y
-pixel-plane w h f x y X Y =
+pub pixel_plane : (w h : ℕ) (f : ℕ → ℕ → ℕ) (x y : ℕ) → x < w → y < h → pixel (plane w h f) w x y ≡ f x y
+pixel_plane w h f x y X Y =
     get_d_plane w h f (y * w + x) (in_plane w h x y X Y) ∙ ap₂ f (digits_mod y X) (digits_div y X)
 
 -- a list of w × h numbers whose pixels are f's is the packed picture of f
@@ -66,19 +66,19 @@ is_plane w h f q W l each = ext_get_or 0 q (plane w h f) (l ∙ sym (length-plan
         ∙ sym (get_d_plane w h f i c)
 
 -- two packed pictures with the same pixels are the same
-pub plane-same : (w h : ℕ) (f g : ℕ → ℕ → ℕ) → 0 < w → ((x y : ℕ) → x < w → y < h → f x y ≡ g x y)
+pub plane_same : (w h : ℕ) (f g : ℕ → ℕ → ℕ) → 0 < w → ((x y : ℕ) → x < w → y < h → f x y ≡ g x y)
     → plane w h f ≡ plane w h g
-plane-same w h f g W each =
-    is_plane w h g (plane w h f) W (length-plane w h f) (λ x y X Y. pixel-plane w h f x y X Y ∙ each x y X Y)
+plane_same w h f g W each =
+    is_plane w h g (plane w h f) W (length-plane w h f) (λ x y X Y. pixel_plane w h f x y X Y ∙ each x y X Y)
 
 pub length-packed : (d : List ℕ) (w h stride : ℕ) → length (packed d w h stride) ≡ w * h
 unfolding packed
 length-packed d w h stride = length-plane w h (pixel d stride)
 
-pub pixel-packed : (d : List ℕ) (w h stride x y : ℕ) → x < w → y < h
+pub pixel_packed : (d : List ℕ) (w h stride x y : ℕ) → x < w → y < h
     → pixel (packed d w h stride) w x y ≡ pixel d stride x y
 unfolding packed
-pixel-packed d w h stride x y X Y = pixel-plane w h (pixel d stride) x y X Y
+pixel_packed d w h stride x y X Y = pixel_plane w h (pixel d stride) x y X Y
 
 -- w × h numbers that are the pixels of a strided picture are the packed picture
 pub packed_is : (d : List ℕ) (w h stride : ℕ) (p : List ℕ) → 0 < w → length p ≡ w * h
@@ -91,10 +91,10 @@ pub packed_again : (p : List ℕ) (w h : ℕ) → 0 < w → length p ≡ w * h �
 packed_again p w h W l = packed_is p w h w p W l (λ x y X Y. refl)
 
 -- two strided pictures with the same pixels are the same when packed, whatever their strides, padding and tails
-pub same-pixels : (w h : ℕ) (a b : List ℕ) (sa sb : ℕ) → 0 < w
+pub same_pixels : (w h : ℕ) (a b : List ℕ) (sa sb : ℕ) → 0 < w
     → ((x y : ℕ) → x < w → y < h → pixel a sa x y ≡ pixel b sb x y) → packed a w h sa ≡ packed b w h sb
 unfolding packed
-same-pixels w h a b sa sb W each = plane-same w h (pixel a sa) (pixel b sb) W each
+same_pixels w h a b sa sb W each = plane_same w h (pixel a sa) (pixel b sb) W each
 
 -- ---- parts of a list, and a list that is written over a part
 
@@ -113,41 +113,41 @@ module _ (at : ℕ) (p d : List ℕ) (fits : at + length p ≤ length d) where
   length-overwritten = simp (length-append, length-take, length-drop) (omega arith)
 
   -- a number before `at` is as it was
-  pub overwritten-before : (i : ℕ) → i < at → get_or (overwritten at p d) i 0 ≡ get_or d i 0
-  overwritten-before i t = get_or-append (take at d) _ 0 i (omega (arith, front)) ∙ get_or-take at d i 0 t
+  pub overwritten_before : (i : ℕ) → i < at → get_or (overwritten at p d) i 0 ≡ get_or d i 0
+  overwritten_before i t = get_or-append (take at d) _ 0 i (omega (arith, front)) ∙ get_or-take at d i 0 t
 
   -- and so is a part that ends there
-  pub part-before : (a n : ℕ) → a + n ≤ at → part a n (overwritten at p d) ≡ part a n d
-  part-before a n t =
+  pub part_before : (a n : ℕ) → a + n ≤ at → part a n (overwritten at p d) ≡ part a n d
+  part_before a n t =
       let long = length-overwritten in
       let size = length_part a n (overwritten at p d) (omega arith) in
       ext_get_or 0 (part a n (overwritten at p d)) (part a n d) (size ∙ sym (length_part a n d (omega arith)))
       (λ i l.
       get_d_part a n (overwritten at p d) (omega arith) i (omega arith)
-      ∙ overwritten-before (a + i) (omega arith)
+      ∙ overwritten_before (a + i) (omega arith)
       ∙ sym (get_d_part a n d (omega arith) i (omega arith)))
 
   -- from `at` on stand the numbers of p
-  pub overwritten-within : (i : ℕ) → i < length p → get_or (overwritten at p d) (at + i) 0 ≡ get_or p i 0
-  overwritten-within i t =
+  pub overwritten_within : (i : ℕ) → i < length p → get_or (overwritten at p d) (at + i) 0 ≡ get_or p i 0
+  overwritten_within i t =
       ap (λ (k : ℕ). get_or (overwritten at p d) (k + i) 0) (sym front)
       ∙ get_or-append-add (take at d) _ i 0
       ∙ get_or-append p _ 0 i t
 
   -- a number after them is as it was
-  pub overwritten-after : (i : ℕ) → get_or (overwritten at p d) (at + length p + i) 0 ≡ get_or d (at + length p + i) 0
-  overwritten-after i =
+  pub overwritten_after : (i : ℕ) → get_or (overwritten at p d) (at + length p + i) 0 ≡ get_or d (at + length p + i) 0
+  overwritten_after i =
       ap (λ (k : ℕ). get_or (overwritten at p d) k 0) (omega (arith, front))
       ∙ get_or-append-add (take at d) _ (length p + i) 0
       ∙ get_or-append-add p _ i 0
       ∙ get_or-drop (at + length p) d i 0
 
 -- the part that was written is p
-pub part-overwritten : (at : ℕ) (p d : List ℕ) → at + length p ≤ length d → part at (length p) (overwritten at p d) ≡ p
-part-overwritten at p d fits =
+pub part_overwritten : (at : ℕ) (p d : List ℕ) → at + length p ≤ length d → part at (length p) (overwritten at p d) ≡ p
+part_overwritten at p d fits =
     let l = length-overwritten at p d fits in
     let s = length_part at (length p) (overwritten at p d) (omega arith) in
     ext_get_or 0 (part at (length p) (overwritten at p d)) p s
     (λ i t.
     get_d_part at (length p) (overwritten at p d) (omega arith) i (omega arith)
-    ∙ overwritten-within at p d fits i (omega arith))
+    ∙ overwritten_within at p d fits i (omega arith))

@@ -42,8 +42,8 @@ pub data NoneFits : List (Condition ℕ) → Type 0 where
 -- an answer by a list of conditions: refused with a number exactly when it is that of the first that fits, and accepted
 -- with its values exactly when none fits
 pub record Exactly {A : Type 0} (cs : List (Condition ℕ)) (values : A) (answer : Answer A) : Type 0 where
-  pub refused-exactly : (n : ℕ) → (answer ≡ refused n) ↔ FirstFits cs n
-  pub accepted-exactly : (answer ≡ accepted values) ↔ NoneFits cs
+  pub refused_exactly : (n : ℕ) → (answer ≡ refused n) ↔ FirstFits cs n
+  pub accepted_exactly : (answer ≡ accepted values) ↔ NoneFits cs
 
 -- ---- the one proof
 module _ {A : Type 0} (values : A) where
@@ -56,10 +56,10 @@ module _ {A : Type 0} (values : A) where
   fits_refused (here p q) = rw p (ap (λ (m : ℕ). refused m) q)
   fits_refused (later p f) = rw p (fits_refused f)
 
-  refused-fits : (cs : List (Condition ℕ)) {n : ℕ} → answer_to cs values ≡ refused n → FirstFits cs n
+  refused_fits : (cs : List (Condition ℕ)) {n : ℕ} → answer_to cs values ≡ refused n → FirstFits cs n
   unfolding answer_to
-  refused-fits [] p = absurd (differ p)
-  refused-fits (c ∷ cs) p = go c.fits refl p (λ q. refused-fits cs q)
+  refused_fits [] p = absurd (differ p)
+  refused_fits (c ∷ cs) p = go c.fits refl p (λ q. refused_fits cs q)
     where
       go : (f : Bool) {n : ℕ} → c.fits ≡ f → cond f (refused c.refusal) (answer_to cs values) ≡ refused n
           → (answer_to cs values ≡ refused n → FirstFits cs n) → FirstFits (c ∷ cs) n
@@ -84,8 +84,8 @@ module _ {A : Type 0} (values : A) where
   -- an answer that `answer_to` gives is refused and accepted exactly as its list says
   pub exactly : (cs : List (Condition ℕ)) {answer : Answer A} → answer ≡ answer_to cs values → Exactly cs values answer
   exactly cs is = record {
-    refused-exactly = λ n. (λ p. refused-fits cs (sym is ∙ p), λ f. is ∙ fits_refused f);
-    accepted-exactly = (λ p. accepted_none cs (sym is ∙ p), λ f. is ∙ none_accepted f);
+    refused_exactly = λ n. (λ p. refused_fits cs (sym is ∙ p), λ f. is ∙ fits_refused f);
+    accepted_exactly = (λ p. accepted_none cs (sym is ∙ p), λ f. is ∙ none_accepted f);
   }
 
 -- ---- a layout, and what is checked after it
@@ -117,22 +117,22 @@ module _ {A : Type 0} (g : Geometry)
       step true p = passes c.refusal
       step false p = p
 
-  pub layout-through : (len : ℕ) → by (layout_of len g) ≡ answer_to (layout_numbers len g ++ last) v
+  pub layout_through : (len : ℕ) → by (layout_of len g) ≡ answer_to (layout_numbers len g ++ last) v
   unfolding layout_of
-  layout-through len = through (layout_conditions len g)
+  layout_through len = through (layout_conditions len g)
 
 -- `validate_layout`
-pub layout-exactly : (len : ℕ) (g : Geometry) → Exactly (layout_numbers len g ++ []) g (layout_answer (layout_of len g))
+pub layout_exactly : (len : ℕ) (g : Geometry) → Exactly (layout_numbers len g ++ []) g (layout_answer (layout_of len g))
 unfolding answer_to
-layout-exactly len g = exactly g (layout_numbers len g ++ []) (layout-through g layout_answer (λ e. refl) [] g refl len)
+layout_exactly len g = exactly g (layout_numbers len g ++ []) (layout_through g layout_answer (λ e. refl) [] g refl len)
 
 -- `check_pixel` and `check_row`, which ask for a place
-asked-exactly : (len : ℕ) (g : Geometry) (inside : Bool)
+asked_exactly : (len : ℕ) (g : Geometry) (inside : Bool)
     → Exactly (layout_numbers len g ++ outside inside) g (layout_answer (asked_for (layout_of len g) inside))
 unfolding answer_to
-asked-exactly len g inside =
+asked_exactly len g inside =
     exactly g (layout_numbers len g ++ outside inside)
-    (layout-through g (λ l. layout_answer (asked_for l inside)) (λ e. refl) (outside inside) g (asked inside) len)
+    (layout_through g (λ l. layout_answer (asked_for l inside)) (λ e. refl) (outside inside) g (asked inside) len)
   where
     asked : (b : Bool) → layout_answer (asked_for (Valid g) b) ≡ answer_to (outside b) g
     asked true = refl
@@ -141,16 +141,16 @@ asked-exactly len g inside =
 pub check_pixel_exactly : (len : ℕ) (g : Geometry) (x y : ℕ)
     → Exactly (layout_numbers len g ++ outside (ltb x g.width && ltb y g.height)) g
     (layout_answer (pixel_layout len g x y))
-check_pixel_exactly len g x y = asked-exactly len g (ltb x g.width && ltb y g.height)
+check_pixel_exactly len g x y = asked_exactly len g (ltb x g.width && ltb y g.height)
 
 pub check_row_exactly : (len : ℕ) (g : Geometry) (y : ℕ)
     → Exactly (layout_numbers len g ++ outside (ltb y g.height)) g (layout_answer (row_layout len g y))
-check_row_exactly len g y = asked-exactly len g (ltb y g.height)
+check_row_exactly len g y = asked_exactly len g (ltb y g.height)
 
 -- `row` and `row_mut` hand out an empty part at the slice's start where `check_row` refuses
-pub row-refused : {d r : Bor (List ℕ)} {g : Geometry} {y n : ℕ} → Hands d g y r
+pub row_refused : {d r : Bor (List ℕ)} {g : Geometry} {y n : ℕ} → Hands d g y r
     → layout_answer (row_layout (length d.now) g y) ≡ refused n → (r.now ≡ []) × (r.ref_ptr ≡ d.ref_ptr)
-row-refused {d} {r} {g} {y} h p = let e = go (row_layout (length d.now) g y) p in (h.bytes ∙ e.0, h.place ∙ e.1)
+row_refused {d} {r} {g} {y} h p = let e = go (row_layout (length d.now) g y) p in (h.bytes ∙ e.0, h.place ∙ e.1)
   where
     go : (l : Layout) {n : ℕ} → layout_answer l ≡ refused n → (row_in l d.now y ≡ []) × (row_at l d.ref_ptr y ≡ d.ref_ptr)
     go (Valid v) q = absurd (differ v q)
@@ -168,19 +168,19 @@ module _ (d : List ℕ) (g : Geometry) (x y : ℕ) where
       let v = pixel d g.stride x y in
       let by : Layout → Answer ℕ = λ l. value_in (asked_for l inside) d x y in
       exactly v (layout_numbers (length d) g ++ outside inside)
-      (layout-through g by (λ e. refl) (outside inside) v (asked inside) (length d))
+      (layout_through g by (λ e. refl) (outside inside) v (asked inside) (length d))
     where
       asked : (b : Bool) → value_in (asked_for (Valid g) b) d x y ≡ answer_to (outside b) (pixel d g.stride x y)
       asked true = refl
       asked false = refl
 
   module _ {v : ℕ} {answer : Answer Bare} {after : List ℕ} (sets : Sets d g x y v answer after) where
-    pub set-exactly : Exactly (layout_numbers (length d) g ++ outside inside) bare answer
+    pub set_exactly : Exactly (layout_numbers (length d) g ++ outside inside) bare answer
     unfolding answer_to
-    set-exactly =
+    set_exactly =
         let by : Layout → Answer Bare = λ l. written_in (asked_for l inside) in
         exactly bare (layout_numbers (length d) g ++ outside inside)
-        (sets.answers ∙ layout-through g by (λ e. refl) (outside inside) bare (asked inside) (length d))
+        (sets.answers ∙ layout_through g by (λ e. refl) (outside inside) bare (asked inside) (length d))
       where
         asked : (b : Bool) → written_in (asked_for (Valid g) b) ≡ answer_to (outside b) bare
         asked true = refl
@@ -198,7 +198,7 @@ module _ (d : List ℕ) (g : Geometry) (x y : ℕ) where
 copied_through : (len : ℕ) (g : Geometry) (at room : ℕ)
     → copied_in (layout_of len g) at room ≡ answer_to (layout_numbers len g ++ too_short g at room) bare
 unfolding answer_to
-copied_through len g at room = layout-through g (λ l. copied_in l at room) (λ e. refl) (too_short g at room) bare refl len
+copied_through len g at room = layout_through g (λ l. copied_in l at room) (λ e. refl) (too_short g at room) bare refl len
 
 module _ {src : List ℕ} {g : Geometry} {at : ℕ} {before : List ℕ} {answer : Answer Bare} {after : List ℕ}
     (packs : Packs src g at before answer after) where

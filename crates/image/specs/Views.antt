@@ -5,17 +5,17 @@ use Rattle.image.specs.declared.Geometry.{Geometry}
 use Rattle.image.specs.Layout.{Kept}
 use Rattle.image.specs.LayoutLaws.{row_within}
 use Rattle.image.specs.Plane.{pixel, packed, painted, painted_at, picture, painted_on}
-use Rattle.image.specs.PlaneLaws.{length-packed, pixel-packed, packed_is, packed_again}
-use Rattle.image.specs.PaintLaws.{length-painted, painted-byte, painted-pixel}
+use Rattle.image.specs.PlaneLaws.{length-packed, pixel_packed, packed_is, packed_again}
+use Rattle.image.specs.PaintLaws.{length-painted, painted_byte, painted_pixel}
 
 -- the picture of a geometry: its length, and each pixel
 module _ (d : List ℕ) (g : Geometry) where
   pub length-picture : length (picture d g) ≡ g.width * g.height
   length-picture = length-packed d g.width g.height g.stride
 
-  pub pixel-picture : (x y : ℕ) → x < g.width → y < g.height
+  pub pixel_picture : (x y : ℕ) → x < g.width → y < g.height
       → pixel (picture d g) g.width x y ≡ pixel d g.stride x y
-  pixel-picture = pixel-packed d g.width g.height g.stride
+  pixel_picture = pixel_packed d g.width g.height g.stride
 
   -- the picture of a slice without padding is the slice
   pub picture_again : 0 < g.width → g.stride ≡ g.width → length d ≡ g.width * g.height → picture d g ≡ d
@@ -27,21 +27,21 @@ module _ (d : List ℕ) (g : Geometry) (p : List ℕ) where
   pub length-painted_on : length (painted_on d g p) ≡ length d
   length-painted_on = length-painted p g.width g.height g.stride d
 
-  pub painted_on-byte : (i : ℕ) → i < length d
+  pub painted_on_byte : (i : ℕ) → i < length d
       → get_or (painted_on d g p) i 0 ≡ painted_at p g.width g.height g.stride i (get_or d i 0)
-  painted_on-byte = painted-byte p g.width g.height g.stride d
+  painted_on_byte = painted_byte p g.width g.height g.stride d
 
   -- pixel (x, y) of a destination with a valid layout is the picture's
-  pub painted_on-pixel : Kept (length d) g → (x y : ℕ) → x < g.width → y < g.height
+  pub painted_on_pixel : Kept (length d) g → (x y : ℕ) → x < g.width → y < g.height
       → pixel (painted_on d g p) g.stride x y ≡ pixel p g.width x y
-  painted_on-pixel k x y X Y =
-      painted-pixel p g.width g.height g.stride d x y X Y k.stride (omega (arith, row_within k y Y))
+  painted_on_pixel k x y X Y =
+      painted_pixel p g.width g.height g.stride d x y X Y k.stride (omega (arith, row_within k y Y))
 
   -- the picture of what was painted is the picture that was painted
-  pub picture-painted_on : Kept (length d) g → length p ≡ g.width * g.height → picture (painted_on d g p) g ≡ p
-  picture-painted_on k n = packed_is (painted_on d g p) _ _ _ p k.wide n (λ x y X Y. sym (painted_on-pixel k x y X Y))
+  pub picture_painted_on : Kept (length d) g → length p ≡ g.width * g.height → picture (painted_on d g p) g ≡ p
+  picture_painted_on k n = packed_is (painted_on d g p) _ _ _ p k.wide n (λ x y X Y. sym (painted_on_pixel k x y X Y))
 
 -- painting with sides w and h that are the geometry's is `painted_on`
-pub painted-sides : (d : List ℕ) (g : Geometry) (p : List ℕ) {w h : ℕ} → g.width ≡ w → g.height ≡ h
+pub painted_sides : (d : List ℕ) (g : Geometry) (p : List ℕ) {w h : ℕ} → g.width ≡ w → g.height ≡ h
     → painted p w h g.stride d ≡ painted_on d g p
-painted-sides d g p a b = sym (ap₂ (λ (w h : ℕ). painted p w h g.stride d) a b)
+painted_sides d g p a b = sym (ap₂ (λ (w h : ℕ). painted p w h g.stride d) a b)

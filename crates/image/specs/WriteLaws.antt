@@ -6,15 +6,15 @@ use Rattle.std.proofs.Math.ListN.{get_or-append}
 use Rattle.std.proofs.lemmas.List.{set_split}
 use Rattle.image.specs.Plane.{tabulate, overwritten}
 use Rattle.image.specs.PlaneLaws.{length-tabulate, get_d_tabulate, length-overwritten}
-use Rattle.image.specs.PaintLaws.{overwritten-more}
+use Rattle.image.specs.PaintLaws.{overwritten_more}
 
 -- storing one number is writing a list of one
 pub set_is : (d : List ℕ) (i v : ℕ) → i < length d → set d i v ≡ overwritten i (v ∷ []) d
 set_is d i v h = set_split d i v h ∙ ap (λ (k : ℕ). take i d ++ (v ∷ drop k d)) (sym (add-one i))
 
 -- a tabulated list of t numbers, and f t after it, is one of t + 1
-tabulate-more : (f : ℕ → ℕ) (t : ℕ) → tabulate f t ++ (f t ∷ []) ≡ tabulate f (t + 1)
-tabulate-more f t =
+tabulate_more : (f : ℕ → ℕ) (t : ℕ) → tabulate f t ++ (f t ∷ []) ≡ tabulate f (t + 1)
+tabulate_more f t =
     let n = length-tabulate f t in
     let l : length (tabulate f t ++ (f t ∷ [])) ≡ t + 1 = length-append (tabulate f t) (f t ∷ []) ∙ omega arith in
     ext_get_or 0 _ _ (l ∙ sym (length-tabulate f (t + 1)))
@@ -38,17 +38,17 @@ unfolding tabulate
 written_none f at d = sym (ap (λ (k : ℕ). take at d ++ drop k d) (add-zero at) ∙ take-append-drop at d)
 
 -- storing the number t after the first t writes t + 1 of them
-pub written-more : (f : ℕ → ℕ) (at t v : ℕ) (d e : List ℕ) → at + t < length d → e ≡ overwritten at (tabulate f t) d
+pub written_more : (f : ℕ → ℕ) (at t v : ℕ) (d e : List ℕ) → at + t < length d → e ≡ overwritten at (tabulate f t) d
     → v ≡ f t → set e (at + t) v ≡ overwritten at (tabulate f (t + 1)) d
-written-more f at t v d e h p q =
+written_more f at t v d e h p q =
     let n = length-tabulate f t in
     let fits : at + length (tabulate f t) ≤ length d = omega arith in
     let w = overwritten at (tabulate f t) d in
     ap₂ (λ (x : List ℕ) (y : ℕ). set x (at + t) y) p q
     ∙ set_is w (at + t) (f t) (omega (arith, length-overwritten at (tabulate f t) d fits))
     ∙ ap (λ (k : ℕ). overwritten (at + k) (f t ∷ []) w) (sym n)
-    ∙ overwritten-more at (tabulate f t) (f t ∷ []) d fits
-    ∙ ap (λ (l : List ℕ). overwritten at l d) (tabulate-more f t)
+    ∙ overwritten_more at (tabulate f t) (f t ∷ []) d fits
+    ∙ ap (λ (l : List ℕ). overwritten at l d) (tabulate_more f t)
 
 -- the list keeps its length
 pub length-written : (f : ℕ → ℕ) (at t : ℕ) (d e : List ℕ) → at + t ≤ length d → e ≡ overwritten at (tabulate f t) d

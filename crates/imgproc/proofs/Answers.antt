@@ -26,7 +26,7 @@ in_range config p =
     let one = neither a (b || c) (not_refused (a || (b || c)) InvalidConfiguration p) in
     let two = neither b c one.1 in
     record {
-      radius-some = pos_of_ne-zero (eqb-false config.radius 0 one.0);
+      radius_some = pos_of_ne-zero (eqb-false config.radius 0 one.0);
       k_small = ltb-false 1000 config.k_milli two.0;
       range_some = pos_of_ne-zero (eqb-false config.dynamic_range 0 two.1);
     }
@@ -40,10 +40,10 @@ room_for config g room p =
     (in_range config both.0, ltb-false room (table_entries g.width g.height) (not_refused short WorkspaceTooSmall both.1))
 
 -- the same of the source that was opened
-pub room-here :
+pub room_here :
     {a b room : ℕ} {s t g h : Geometry} {config : SauvolaConfig} {check : Check}
     → Pair a s b t g h
     → check ≡ first (settings_and_room config g room)
     → check ≡ Accepted
     → InRange config × (table_entries g.width g.height ≤ room)
-room-here {g = g} p is a = room_for _ g _ (sym is ∙ a)
+room_here {g = g} p is a = room_for _ g _ (sym is ∙ a)

@@ -8,14 +8,14 @@ use Rattle.image.specs.declared.Geometry.{Geometry}
 use Rattle.image.specs.Answers.{Answer, Bare, accepted, refused}
 use Rattle.image.specs.Plane.{painted_on, picture, part}
 use Rattle.image.specs.Copy.{Unpacks}
-use Rattle.image.specs.CopyLaws.{unpacks-done}
+use Rattle.image.specs.CopyLaws.{unpacks_done}
 use Rattle.imgproc.specs.declared.ImgProcError.{ImgProcError}
 use Rattle.imgproc.specs.declared.Check.TheVariants.{Accepted, Refused}
 use Rattle.imgproc.specs.declared.morphology.tally.Tally.{Tally}
 use Rattle.imgproc.specs.Tallies.{Stands}
 use Rattle.imgproc.specs.Refusals.{error_number, first}
 use Rattle.imgproc.specs.Calls.{Loan, Left, Operator, made_of, Serves, Paired, Works}
-use Rattle.imgproc.proofs.WaysOut.{Comes, Pair, source-same, target_same, past}
+use Rattle.imgproc.proofs.WaysOut.{Comes, Pair, source_same, target_same, past}
 
 -- what was lent, by the layouts that were opened
 abbrev opened_as : {S : Type 0} → Loan S → Geometry → Geometry → Loan S
@@ -50,7 +50,7 @@ module _ {S A : Type 0} {operator : Operator S A} {lent : Loan S} where
       → Serves operator lent (accepted values) left
   served p own-taken answers made long =
       let q = (past p {rest = λ g. operator.own lent.settings g (length lent.workspace)} own-taken).is in
-      let same = as_lent lent (source-same p) (target_same p) in
+      let same = as_lent lent (source_same p) (target_same p) in
       record {
         answers = rw q (ap accepted (answers ∙ ap (λ (l : Loan S). operator.values l.settings l.source.width l.source.height) same));
         leaves = rw q (made ∙ ap (made_of operator) same);
@@ -82,7 +82,7 @@ module _ {S : Type 0} {operator : Operator S ℕ} {lent : Loan S} where
       let area : t.width * t.height ≡ n = ap₂ (λ (a b : ℕ). a * b) (sym pair.wide) (sym pair.high) in
       record {
         leaves =
-            unpacks-done pair.to (omega (arith, long, fits)) unpack
+            unpacks_done pair.to (omega (arith, long, fits)) unpack
             ∙ ap (painted_on lent.dst t) (ap (λ (m : ℕ). part n m ws) area ∙ made);
         counted = counted;
         long = long;

@@ -17,7 +17,7 @@ use Rattle.imgproc.specs.declared.Check.{Check}
 use Rattle.imgproc.specs.declared.Check.TheVariants.{Accepted, Refused}
 use Rattle.imgproc.specs.Refusals.{Conditions, first, refused_if, ◌then◌, view_conditions, pair_conditions}
 use Rattle.imgproc.specs.Calls.{Paired}
-use Rattle.imgproc.specs.RefusalLaws.{source-refused, then_refused, then_accepted, refuses-last, passes-last, view_refused, view_accepted}
+use Rattle.imgproc.specs.RefusalLaws.{source_refused, then_refused, then_accepted, refuses_last, passes_last, view_refused, view_accepted}
 
 -- ---- what is known where a call leaves: each is a record, so that its numbers are found
 
@@ -73,18 +73,18 @@ module _ (a : ℕ) (s : Geometry) (b : ℕ) (t : Geometry) (rest : Conditions) w
       both_in = source_in ∙ then_accepted (view_conditions b t) sizes (view_accepted b t j)
 
       -- the sizes differ, or agree
-      sizes-out : (eqb s.width t.width && eqb s.height t.height) ≡ false → first (pair_conditions a s b t then rest) ≡ Refused DimensionMismatch
-      sizes-out q = then_refused (pair_conditions a s b t) rest (both_in ∙ refuses-last _ _ (ap not q))
+      sizes_out : (eqb s.width t.width && eqb s.height t.height) ≡ false → first (pair_conditions a s b t then rest) ≡ Refused DimensionMismatch
+      sizes_out q = then_refused (pair_conditions a s b t) rest (both_in ∙ refuses_last _ _ (ap not q))
 
       sizes_in : s.width ≡ t.width → s.height ≡ t.height → first (pair_conditions a s b t then rest) ≡ first rest
       sizes_in w y =
           then_accepted (pair_conditions a s b t) rest
-          (both_in ∙ passes-last _ _ (rw (eq-eqb s.width t.width w, eq-eqb s.height t.height y)))
+          (both_in ∙ passes_last _ _ (rw (eq-eqb s.width t.width w, eq-eqb s.height t.height y)))
 
 -- ---- the ways out, of what the code knows there: `search` finds the premises
 module _ {a : ℕ} {s : Geometry} {b : ℕ} {t : Geometry} {rest : Geometry → Conditions} {l : Layout} (is : l ≡ layout_of a s) where
   pub by_source : {e r : LumaError} → l ≡ Invalid e → r ≡ refusal_of l → Comes a s b t rest (Refused (Image r))
-  by_source i q = record { is = rw (q ∙ ap refusal_of i) (source-refused a s b t (rest s) (sym is ∙ i)) }
+  by_source i q = record { is = rw (q ∙ ap refusal_of i) (source_refused a s b t (rest s) (sym is ∙ i)) }
 
   module _ {g : Geometry} (i : l ≡ Valid g) {m : Layout} (is' : m ≡ layout_of b t) where
     pub by_target : {e r : LumaError} → m ≡ Invalid e → r ≡ refusal_of m → Comes a s b t rest (Refused (Image r))
@@ -94,14 +94,14 @@ module _ {a : ℕ} {s : Geometry} {b : ℕ} {t : Geometry} {rest : Geometry → 
       pub widths_differ : (g.width ≡ h.width → ⊥) → Comes a s b t rest (Refused DimensionMismatch)
       widths_differ n = record {
         is =
-            sizes-out a s b t (rest s) (sym is ∙ i) (sym is' ∙ j)
+            sizes_out a s b t (rest s) (sym is ∙ i) (sym is' ∙ j)
             (rw (ne_eqb s.width t.width (λ e. n (as_opened (opened is i) (opened is' j) (λ k. k.width) e))));
       }
 
       pub heights_differ : g.width ≡ h.width → (g.height ≡ h.height → ⊥) → Comes a s b t rest (Refused DimensionMismatch)
       heights_differ w n = record {
         is =
-            sizes-out a s b t (rest s) (sym is ∙ i) (sym is' ∙ j)
+            sizes_out a s b t (rest s) (sym is ∙ i) (sym is' ∙ j)
             (rw (
               eq-eqb s.width t.width (as_asked (opened is i) (opened is' j) (λ k. k.width) w),
               ne_eqb s.height t.height (λ e. n (as_opened (opened is i) (opened is' j) (λ k. k.height) e)),
@@ -144,17 +144,17 @@ pub pair_of :
 pair_of is i is' j w y = record { source = opened is i; target = opened is' j; wide = w; high = y }
 
 module _ {a : ℕ} {s : Geometry} {b : ℕ} {t g h : Geometry} (p : Pair a s b t g h) where
-  pub source-kept : Kept a g
-  source-kept = kept p.source
+  pub source_kept : Kept a g
+  source_kept = kept p.source
 
   pub target_kept : Kept b h
   target_kept = kept p.target
 
   pub paired : Paired a g b h
-  paired = record { from = source-kept; to = target_kept; wide = p.wide; high = p.high }
+  paired = record { from = source_kept; to = target_kept; wide = p.wide; high = p.high }
 
-  pub source-same : s ≡ g
-  source-same = same p.source
+  pub source_same : s ≡ g
+  source_same = same p.source
 
   pub target_same : t ≡ h
   target_same = same p.target
@@ -166,7 +166,7 @@ module _ {a : ℕ} {s : Geometry} {b : ℕ} {t g h : Geometry} (p : Pair a s b t
         sizes_in a s b t (rest s) p.source.is p.target.is
         (as_asked p.source p.target (λ k. k.width) p.wide)
         (as_asked p.source p.target (λ k. k.height) p.high)
-        ∙ ap (λ (u : Geometry). first (rest u)) source-same
+        ∙ ap (λ (u : Geometry). first (rest u)) source_same
         ∙ q;
   }
 

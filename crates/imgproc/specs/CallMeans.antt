@@ -5,10 +5,10 @@ use Rattle.std.specs.Prelude.{ℕ, ◌<◌, ◌≡◌, List, length}
 use Rattle.std.proofs.Common.{arith, sym, ap, ◌∙◌}
 use Rattle.image.specs.Answers.{accepted}
 use Rattle.image.specs.Plane.{pixel, picture}
-use Rattle.image.specs.Views.{painted_on-pixel}
+use Rattle.image.specs.Views.{painted_on_pixel}
 use Rattle.imgproc.specs.declared.Check.TheVariants.{Accepted}
 use Rattle.imgproc.specs.Refusals.{Conditions, first, pair_conditions}
-use Rattle.imgproc.specs.RefusalLaws.{both_accepted, taken, pair-says}
+use Rattle.imgproc.specs.RefusalLaws.{both_accepted, taken, pair_says}
 use Rattle.imgproc.specs.Calls.{Loan, Left, Operator, Serves, conditions_of, made_of, Paired}
 
 -- an accepted call: what was lent to it, its values, and what it left
@@ -51,20 +51,20 @@ module _ {S A : Type 0} {operator : Operator S A} (a : AcceptedCall operator) wh
   owns = operator.own settings_of a.lent.source (length a.lent.workspace)
 
   pub pair : Paired (length a.lent.src) a.lent.source (length a.lent.dst) a.lent.target
-  pair = pair-says _ a.lent.source _ a.lent.target (both_accepted pairs owns said).0
+  pair = pair_says _ a.lent.source _ a.lent.target (both_accepted pairs owns said).0
 
   pub own_accepted : first owns ≡ Accepted
   own_accepted = (both_accepted pairs owns said).1
 
   -- each pixel of the rows is that of the picture that the call makes of its source
-  pub pixel-made : (x y : ℕ) → x < wide → y < high
+  pub pixel_made : (x y : ℕ) → x < wide → y < high
       → left_pixel x y ≡ pixel (operator.make settings_of wide high source_of) wide x y
-  pixel-made x y X Y =
+  pixel_made x y X Y =
       let p = pair in
       let made = operator.make settings_of wide high source_of in
       let left : a.left.dst ≡ made_of operator a.lent = a.serves.leaves ∙ rw said in
       ap (λ (d : List ℕ). pixel d a.lent.target.stride x y) left
-      ∙ painted_on-pixel a.lent.dst a.lent.target made p.to x y
+      ∙ painted_on_pixel a.lent.dst a.lent.target made p.to x y
       (omega (arith, p.wide)) (omega (arith, p.high))
       ∙ ap (λ (n : ℕ). pixel made n x y) (sym p.wide)
 

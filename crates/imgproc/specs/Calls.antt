@@ -57,7 +57,7 @@ module _ {S A : Type 0} (operator : Operator S A) (lent : Loan S) where
 
 -- ---- inside: what the work of an accepted call asks and leaves
 
--- each slice holds its picture, and the sizes are equal: what an accepted pair says (`pair-says` of RefusalLaws)
+-- each slice holds its picture, and the sizes are equal: what an accepted pair says (`pair_says` of RefusalLaws)
 pub record Paired (src_len : ℕ) (src : Geometry) (dst_len : ℕ) (dst : Geometry) : Type 0 where
   pub from : Kept src_len src
   pub to : Kept dst_len dst

@@ -4,7 +4,7 @@ use Rattle.std.specs.Prelude.{◌≡◌, Bool, true, false, cond, List, ℕ, ◌
 use Rattle.std.proofs.Common.{ap, arith}
 use Rattle.std.proofs.Math.Nat.{div-add-mod}
 use Rattle.image.specs.Plane.{pixel}
-use Rattle.image.specs.PlaneLaws.{length-plane, pixel-plane, is_plane}
+use Rattle.image.specs.PlaneLaws.{length-plane, pixel_plane, is_plane}
 use Rattle.imgproc.specs.Fold.{fold_box}
 use Rattle.imgproc.specs.Extremes.{Extreme, Order, Inside, Some, fold_box_extreme, is_fold_box}
 use Rattle.imgproc.specs.Reach.{low, high, radius, one_block, reach_from, reach_to, reach_box}
@@ -50,12 +50,12 @@ module _ {R : ℕ → ℕ → Type 0} {op : ℕ → ℕ → ℕ} (o : Order R op
   some x y l m = record { across = reach_some kw w x X l; down = reach_some kh h y Y m }
 
   -- what erosion (`lowest`) and dilation (`highest`) are: at each pixel a bound of its reach that is attained there
-  pub swept-extreme : (x y : ℕ) → x < w → y < h
+  pub swept_extreme : (x y : ℕ) → x < w → y < h
       → Extreme R (Inside (reach_box kw kh w h x y)) (λ q. pixel p w q.0 q.1)
       (pixel (swept_rect op kw kh w h p) w x y)
   unfolding swept_rect
-  swept-extreme x y l m =
-      rw (pixel-plane w h (λ x y. fold_box op (pixel p w) (reach_box kw kh w h x y)) x y l m)
+  swept_extreme x y l m =
+      rw (pixel_plane w h (λ x y. fold_box op (pixel p w) (reach_box kw kh w h x y)) x y l m)
       (fold_box_extreme o (pixel p w) (reach_box kw kh w h x y) (some x y l m))
 
   -- and nothing else is

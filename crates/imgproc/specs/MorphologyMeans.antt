@@ -6,12 +6,12 @@ use Rattle.std.proofs.Common.{arith, sym, ap, ap₂, ◌∙◌, subst}
 use Rattle.std.proofs.lemmas.List.{length-map}
 use Rattle.image.specs.Plane.{pixel, packed}
 use Rattle.image.specs.PlaneLaws.{packed_is}
-use Rattle.image.specs.Views.{pixel-picture, length-picture}
+use Rattle.image.specs.Views.{pixel_picture, length-picture}
 use Rattle.imgproc.specs.declared.morphology.Operation.{Operation}
 use Rattle.imgproc.specs.declared.morphology.Operation.TheVariants.{Open, Close}
 use Rattle.imgproc.specs.declared.ImgProcError.TheVariants.{InvalidKernel}
 use Rattle.imgproc.specs.Refusals.{refused_if, bad_kernel}
-use Rattle.imgproc.specs.RefusalLaws.{both_accepted, not_refused, kernel-says, kernel_odd}
+use Rattle.imgproc.specs.RefusalLaws.{both_accepted, not_refused, kernel_says, kernel_odd}
 use Rattle.imgproc.specs.Extremes.{Low, High}
 use Rattle.imgproc.specs.CallMeans.{
   AcceptedCall,
@@ -23,7 +23,7 @@ use Rattle.imgproc.specs.CallMeans.{
   left_pixel,
   pair,
   own_accepted,
-  pixel-made,
+  pixel_made,
   MappedSource,
   MappedRows,
 }
@@ -32,7 +32,7 @@ use Rattle.imgproc.specs.MorphologyLaws.{length-operated}
 use Rattle.imgproc.specs.UnderOver.{InnerBefore, InnerAtMost, cut, Monotone}
 use Rattle.imgproc.specs.UnderOverLaws.{
   opened_under,
-  closed-over,
+  closed_over,
   pixel_mapped,
   operated_commutes,
   cut_monotone,
@@ -53,9 +53,9 @@ module _ (operation : Operation) (a : AcceptedCall (morphology operation)) where
   left_before R law x y across down =
       let X : x < wide a = omega (arith, across.after) in
       let Y : y < high a = omega (arith, down.after) in
-      let lent = pixel-picture a.lent.src a.lent.source x y X Y in
+      let lent = pixel_picture a.lent.src a.lent.source x y X Y in
       let made = pixel (operated operation (settings_of a) (wide a) (high a) (source_of a)) (wide a) x y in
-      subst (λ (n : ℕ). R n (source_pixel a x y)) (sym (pixel-made a x y X Y))
+      subst (λ (n : ℕ). R n (source_pixel a x y)) (sym (pixel_made a x y X Y))
       (subst (λ (n : ℕ). R made n) lent (law x y across down))
 
 -- ---- under and over
@@ -68,18 +68,18 @@ opening_under a =
     (opened_under (settings_of a) (wide a) (high a) (kernel_odd (settings_of a) (kernel_fine Open a)) (source_of a))
 
 -- an accepted closing leaves none below it
-pub closing-over : (a : AcceptedCall closing)
+pub closing_over : (a : AcceptedCall closing)
     → InnerAtMost (settings_of a) (wide a) (high a) (source_pixel a) (left_pixel a)
-closing-over a =
+closing_over a =
     left_before Close a High
-    (closed-over (settings_of a) (wide a) (high a) (kernel_odd (settings_of a) (kernel_fine Close a)) (source_of a))
+    (closed_over (settings_of a) (wide a) (high a) (kernel_odd (settings_of a) (kernel_fine Close a)) (source_of a))
 
 -- ---- maps and cuts
 
 -- equals for equals
-made-same : (operation : Operation) (d : List ℕ) (stride : ℕ) {k k' w w' h h' : ℕ} → k ≡ k' → w ≡ w' → h ≡ h'
+made_same : (operation : Operation) (d : List ℕ) (stride : ℕ) {k k' w w' h h' : ℕ} → k ≡ k' → w ≡ w' → h ≡ h'
     → operated operation k w h (packed d w h stride) ≡ operated operation k' w' h' (packed d w' h' stride)
-made-same operation d stride K W H = rw (K, W, H)
+made_same operation d stride K W H = rw (K, W, H)
 
 module _ (operation : Operation) (f : ℕ → ℕ) (monotone : Monotone f) (a b : AcceptedCall (morphology operation))
     (maps : MappedSource f a b) where
@@ -96,25 +96,25 @@ module _ (operation : Operation) (f : ℕ → ℕ) (monotone : Monotone f) (a b 
       (pair a).from.wide (length-map (source_of a) f ∙ long)
       (λ x y X Y.
       pixel_mapped f (wide a) (high a) (source_of a) long x y X Y
-      ∙ ap f (pixel-picture a.lent.src a.lent.source x y X Y)
+      ∙ ap f (pixel_picture a.lent.src a.lent.source x y X Y)
       ∙ sym (maps.pixels x y X Y))
 
   -- the second makes the same, mapped
   mapped_made : operated operation (settings_of b) (wide b) (high b) (source_of b) ≡ map f made
   mapped_made =
-      made-same operation b.lent.src b.lent.source.stride maps.settings maps.as_wide maps.as_high
+      made_same operation b.lent.src b.lent.source.stride maps.settings maps.as_wide maps.as_high
       ∙ ap (operated operation (settings_of a) (wide a) (high a)) mapped_source
       ∙ operated_commutes f monotone (settings_of a) (wide a) (high a)
-      (omega (arith, kernel-says (settings_of a) (kernel_fine operation a))) operation (source_of a) long
+      (omega (arith, kernel_says (settings_of a) (kernel_fine operation a))) operation (source_of a) long
 
   -- so the second's rows are those of the first, mapped
   pub rows_mapped : MappedRows f a b
   rows_mapped x y X Y =
-      pixel-made b x y (omega (arith, maps.as_wide)) (omega (arith, maps.as_high))
+      pixel_made b x y (omega (arith, maps.as_wide)) (omega (arith, maps.as_high))
       ∙ ap₂ (λ (p : List ℕ) (w : ℕ). pixel p w x y) mapped_made maps.as_wide
       ∙ pixel_mapped f (wide a) (high a) made
       (length-operated operation (settings_of a) (wide a) (high a) (source_of a)) x y X Y
-      ∙ ap f (sym (pixel-made a x y X Y))
+      ∙ ap f (sym (pixel_made a x y X Y))
 
 -- the second over the cut of the first one's source: its rows are the cut of the first's, for each of the four calls
 pub rows_cut : (operation : Operation) (level : ℕ) (a b : AcceptedCall (morphology operation))

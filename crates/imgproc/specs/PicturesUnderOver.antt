@@ -111,18 +111,18 @@ unfolding swept_rect plane
 closing_nearer_y law = no (law 1 0 middle edge)
 
 -- the law claimed of an even kernel
-pub opening-even : InnerAtMost 4 5 3 (pixel (opened 4 5 3 (thrice dark_pair)) 5) (pixel (thrice dark_pair) 5) → ⊥
+pub opening_even : InnerAtMost 4 5 3 (pixel (opened 4 5 3 (thrice dark_pair)) 5) (pixel (thrice dark_pair) 5) → ⊥
 unfolding swept_rect plane
-opening-even law = no (law 1 1 second middle)
+opening_even law = no (law 1 1 second middle)
 
-pub closing-even : InnerAtMost 4 5 3 (pixel (thrice light_pair) 5) (pixel (closed 4 5 3 (thrice light_pair)) 5) → ⊥
+pub closing_even : InnerAtMost 4 5 3 (pixel (thrice light_pair) 5) (pixel (closed 4 5 3 (thrice light_pair)) 5) → ⊥
 unfolding swept_rect plane
-closing-even law = no (law 1 1 second middle)
+closing_even law = no (law 1 1 second middle)
 
 -- the law claimed the other way round: source ≤ opening, closing ≤ source
-pub opening-over : InnerAtMost 3 3 3 (pixel light_spot 3) (pixel (opened 3 3 3 light_spot) 3) → ⊥
+pub opening_over : InnerAtMost 3 3 3 (pixel light_spot 3) (pixel (opened 3 3 3 light_spot) 3) → ⊥
 unfolding swept_rect plane
-opening-over law = no (law 1 1 middle middle)
+opening_over law = no (law 1 1 middle middle)
 
 pub closing_under : InnerAtMost 3 3 3 (pixel (closed 3 3 3 dark_spot) 3) (pixel dark_spot 3) → ⊥
 unfolding swept_rect plane

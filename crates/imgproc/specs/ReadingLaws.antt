@@ -9,7 +9,7 @@ use Rattle.imgproc.specs.declared.reading.judging.Judgement.{Judgement}
 use Rattle.imgproc.specs.declared.reading.judging.Judgement.TheVariants.{Dark, Light, Skipped}
 use Rattle.imgproc.specs.Fold.{bit}
 use Rattle.imgproc.specs.Reach.{walk}
-use Rattle.imgproc.specs.Walks.{same-walk, walk_le, reading_below}
+use Rattle.imgproc.specs.Walks.{same_walk, walk_le, reading_below}
 use Rattle.imgproc.specs.Reading.{is_dark, is_light, is_skipped, judged, pixels, comparisons_of, reading_of}
 
 -- three tests of which each index passes one
@@ -52,13 +52,13 @@ no_walk test (suc n) h =
     let w = no_walk test n (λ i l. h i (omega arith)) in omega arith
 
 -- tests that agree on every pixel count the same pixels, and one that none passes counts none
-pub pixels-same : (w h : ℕ) (a b : ℕ → ℕ → Bool) → ((x y : ℕ) → a x y ≡ b x y) → pixels w h a ≡ pixels w h b
+pub pixels_same : (w h : ℕ) (a b : ℕ → ℕ → Bool) → ((x y : ℕ) → a x y ≡ b x y) → pixels w h a ≡ pixels w h b
 unfolding pixels
-pixels-same w h a b e = same-walk (λ i. a (i % w) (i / w)) (λ i. b (i % w) (i / w)) (w * h) (λ i l. e (i % w) (i / w))
+pixels_same w h a b e = same_walk (λ i. a (i % w) (i / w)) (λ i. b (i % w) (i / w)) (w * h) (λ i l. e (i % w) (i / w))
 
-pub pixels-empty : (w h : ℕ) (test : ℕ → ℕ → Bool) → ((x y : ℕ) → test x y ≡ false) → pixels w h test ≡ 0
+pub pixels_empty : (w h : ℕ) (test : ℕ → ℕ → Bool) → ((x y : ℕ) → test x y ≡ false) → pixels w h test ≡ 0
 unfolding pixels
-pixels-empty w h test e = no_walk (λ i. test (i % w) (i / w)) (w * h) (λ i l. e (i % w) (i / w))
+pixels_empty w h test e = no_walk (λ i. test (i % w) (i / w)) (w * h) (λ i l. e (i % w) (i / w))
 
 -- dark is 0 exactly when no pixel is judged dark
 pub none_dark : (s : ReadingConfig) (w h : ℕ) (p : List ℕ) → (reading_of s w h p).dark ≡ 0 → (x y : ℕ) → x < w → y < h
@@ -86,31 +86,31 @@ comparisons_below s w h W H K M = reading_below w h W H s.division.structuring_e
 
 -- ---- counting row by row
 
-walk-add : (p : ℕ → Bool) (a b : ℕ) → walk p (a + b) ≡ walk p a + walk (λ i. p (a + i)) b
+walk_add : (p : ℕ → Bool) (a b : ℕ) → walk p (a + b) ≡ walk p a + walk (λ i. p (a + i)) b
 unfolding walk
-walk-add p a zero = rw (add-zero a) (sym (add-zero (walk p a)))
-walk-add p a (suc b) = rw (add-suc a b) (let h = walk-add p a b in omega arith)
+walk_add p a zero = rw (add-zero a) (sym (add-zero (walk p a)))
+walk_add p a (suc b) = rw (add-suc a b) (let h = walk_add p a b in omega arith)
 
 pub pixels_none : (w : ℕ) (test : ℕ → ℕ → Bool) → pixels w 0 test ≡ 0
 unfolding pixels walk
 pixels_none w test = ap (walk (λ i. test (i % w) (i / w))) (mul-zero w)
 
 -- a row more
-pub pixels-row : (w y : ℕ) (test : ℕ → ℕ → Bool) → 0 < w
+pub pixels_row : (w y : ℕ) (test : ℕ → ℕ → Bool) → 0 < w
     → pixels w (y + 1) test ≡ pixels w y test + walk (λ x. test x y) w
 unfolding pixels
-pixels-row w y test W =
+pixels_row w y test W =
     let p : ℕ → Bool = λ i. test (i % w) (i / w) in
     let e : w * (y + 1) ≡ w * y + w = mul-add w y 1 ∙ ap (λ (n : ℕ). w * y + n) (mul-one w) in
     ap (walk p) e
-    ∙ walk-add p (w * y) w
+    ∙ walk_add p (w * y) w
     ∙ ap (λ (n : ℕ). walk p (w * y) + n)
-    (same-walk (λ i. p (w * y + i)) (λ x. test x y) w
+    (same_walk (λ i. p (w * y + i)) (λ x. test x y) w
     (λ i l.
     let q : w * y + i ≡ y * w + i = ap (λ (n : ℕ). n + i) (mul_comm w y) in
     ap p q ∙ ap₂ test (digits_mod y l) (digits_div y l)))
 
 -- no more pixels than there are
-pub pixels-most : (w y : ℕ) (test : ℕ → ℕ → Bool) → pixels w y test ≤ w * y
+pub pixels_most : (w y : ℕ) (test : ℕ → ℕ → Bool) → pixels w y test ≤ w * y
 unfolding pixels
-pixels-most w y test = walk_le (λ i. test (i % w) (i / w)) (w * y)
+pixels_most w y test = walk_le (λ i. test (i % w) (i / w)) (w * y)

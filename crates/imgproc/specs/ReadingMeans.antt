@@ -25,7 +25,7 @@ use Rattle.imgproc.specs.Refusals.{
   division_settings,
   sauvola_settings,
 }
-use Rattle.imgproc.specs.RefusalLaws.{both_accepted, taken, not_refused, kernel-says, division-says, pair-says}
+use Rattle.imgproc.specs.RefusalLaws.{both_accepted, taken, not_refused, kernel_says, division_says, pair_says}
 use Rattle.imgproc.specs.Calls.{Loan, Left, Serves, conditions_of, Paired}
 use Rattle.imgproc.specs.MorphologyCalls.{opening, closing}
 use Rattle.imgproc.specs.MorphologyLaws.{operation_walks_lem}
@@ -52,7 +52,7 @@ use Rattle.imgproc.specs.Reading.{
   numbers_from,
   Reads,
 }
-use Rattle.imgproc.specs.ReadingLaws.{adds_up, comparisons_below, pixels-same, pixels-empty}
+use Rattle.imgproc.specs.ReadingLaws.{adds_up, comparisons_below, pixels_same, pixels_empty}
 
 -- ---- the judgement of a pixel
 
@@ -110,26 +110,26 @@ module _ (s : ReadingConfig) (w h : ℕ) (p : List ℕ) (x y : ℕ) where
 
   -- a pixel is judged dark exactly when its tile is not skipped and its flattened, opened value is at most the directly
   -- summed threshold
-  pub dark-exactly : (judged s w h p x y ≡ Dark)
+  pub dark_exactly : (judged s w h p x y ≡ Dark)
       ↔ ((skip_here s w h p x y ≡ false) × (value_here s w h p x y ≤ threshold_here s w h p x y))
-  dark-exactly = (
+  dark_exactly = (
     λ d. let c =
         chosen_dark (skip_here s w h p x y) (at_most s w h p x y) (sym judged_by ∙ d) in (c.0, leb-true _ _ c.1),
     λ c. judged_by ∙ rw (c.0, le-leb _ _ c.1),
   )
 
   -- light exactly when its tile is not skipped and that value is above that threshold
-  pub light-exactly : (judged s w h p x y ≡ Light)
+  pub light_exactly : (judged s w h p x y ≡ Light)
       ↔ ((skip_here s w h p x y ≡ false) × (threshold_here s w h p x y < value_here s w h p x y))
-  light-exactly = (
+  light_exactly = (
     λ d. let c =
         chosen_light (skip_here s w h p x y) (at_most s w h p x y) (sym judged_by ∙ d) in (c.0, leb-false _ _ c.1),
     λ c. judged_by ∙ rw (c.0, lt-leb _ _ c.1),
   )
 
   -- skipped exactly when its tile is
-  pub skipped-exactly : (judged s w h p x y ≡ Skipped) ↔ (skip_here s w h p x y ≡ true)
-  skipped-exactly =
+  pub skipped_exactly : (judged s w h p x y ≡ Skipped) ↔ (skip_here s w h p x y ≡ true)
+  skipped_exactly =
       (λ d. chosen_skipped (skip_here s w h p x y) (at_most s w h p x y) (sym judged_by ∙ d), λ c. judged_by ∙ rw c)
 
 -- ---- an accepted reading
@@ -173,7 +173,7 @@ module _ (a : AcceptedReading) where
       (p.0, (both_accepted (reading_settings settings_of) room p.1).0)
 
   pub pair : Paired (length a.lent.src) a.lent.source (length a.lent.dst) a.lent.target
-  pair = pair-says (length a.lent.src) a.lent.source (length a.lent.dst) a.lent.target parts.0
+  pair = pair_says (length a.lent.src) a.lent.source (length a.lent.dst) a.lent.target parts.0
 
   -- ---- its numbers
 
@@ -189,43 +189,43 @@ module _ (a : AcceptedReading) where
   abbrev pub dark_enough : ℕ → ℕ → Bool
   dark_enough = at_most settings_of wide high source_of
 
-  judged-here : (x y : ℕ) → judged_here x y ≡ cond (tile_skipped x y) Skipped (cond (dark_enough x y) Dark Light)
-  judged-here = judged_by settings_of wide high source_of
+  judged_here_lem : (x y : ℕ) → judged_here x y ≡ cond (tile_skipped x y) Skipped (cond (dark_enough x y) Dark Light)
+  judged_here_lem = judged_by settings_of wide high source_of
 
   -- dark is the number of pixels whose tile is not skipped and whose value is at most the threshold
-  pub dark-counted : a.numbers.dark ≡ pixels wide high (λ x y. not (tile_skipped x y) && dark_enough x y)
+  pub dark_counted : a.numbers.dark ≡ pixels wide high (λ x y. not (tile_skipped x y) && dark_enough x y)
   unfolding reading_of
-  dark-counted =
+  dark_counted =
       ap (λ (n : ReadingNumbers). n.dark) numbers_are
-      ∙ pixels-same wide high (λ x y. is_dark (judged_here x y)) (λ x y. not (tile_skipped x y) && dark_enough x y)
-      (λ x y. ap is_dark (judged-here x y) ∙ tests_dark (tile_skipped x y) (dark_enough x y))
+      ∙ pixels_same wide high (λ x y. is_dark (judged_here x y)) (λ x y. not (tile_skipped x y) && dark_enough x y)
+      (λ x y. ap is_dark (judged_here_lem x y) ∙ tests_dark (tile_skipped x y) (dark_enough x y))
 
   -- light is the number of those whose tile is not skipped and whose value is above it
-  pub light-counted : a.numbers.light ≡ pixels wide high (λ x y. not (tile_skipped x y) && not (dark_enough x y))
+  pub light_counted : a.numbers.light ≡ pixels wide high (λ x y. not (tile_skipped x y) && not (dark_enough x y))
   unfolding reading_of
-  light-counted =
+  light_counted =
       ap (λ (n : ReadingNumbers). n.light) numbers_are
-      ∙ pixels-same wide high (λ x y. is_light (judged_here x y)) (λ x y. not (tile_skipped x y) && not (dark_enough x y))
-      (λ x y. ap is_light (judged-here x y) ∙ tests_light (tile_skipped x y) (dark_enough x y))
+      ∙ pixels_same wide high (λ x y. is_light (judged_here x y)) (λ x y. not (tile_skipped x y) && not (dark_enough x y))
+      (λ x y. ap is_light (judged_here_lem x y) ∙ tests_light (tile_skipped x y) (dark_enough x y))
 
   -- skipped is the number of those whose tile is skipped
-  pub skipped-counted : a.numbers.skipped ≡ pixels wide high tile_skipped
+  pub skipped_counted : a.numbers.skipped ≡ pixels wide high tile_skipped
   unfolding reading_of
-  skipped-counted =
+  skipped_counted =
       ap (λ (n : ReadingNumbers). n.skipped) numbers_are
-      ∙ pixels-same wide high (λ x y. is_skipped (judged_here x y)) tile_skipped
-      (λ x y. ap is_skipped (judged-here x y) ∙ tests_skipped (tile_skipped x y) (dark_enough x y))
+      ∙ pixels_same wide high (λ x y. is_skipped (judged_here x y)) tile_skipped
+      (λ x y. ap is_skipped (judged_here_lem x y) ∙ tests_skipped (tile_skipped x y) (dark_enough x y))
 
   -- the three counts add up to w × h
-  pub add-up : a.numbers.dark + a.numbers.light + a.numbers.skipped ≡ wide * high
-  add-up =
+  pub add_up : a.numbers.dark + a.numbers.light + a.numbers.skipped ≡ wide * high
+  add_up =
       ap (λ (n : ReadingNumbers). n.dark + n.light + n.skipped) numbers_are ∙ adds_up settings_of wide high source_of
 
   -- a contrast floor of 0 never skips
   pub floor_0_skips_none : settings_of.grid.contrast_floor ≡ 0 → a.numbers.skipped ≡ 0
   floor_0_skips_none z =
-      skipped-counted
-      ∙ pixels-empty wide high tile_skipped
+      skipped_counted
+      ∙ pixels_empty wide high tile_skipped
       (λ x y. floor_0 settings_of.grid wide high (opened_of settings_of wide high source_of)
       (x / settings_of.grid.tile_width) (y / settings_of.grid.tile_height) z)
 
@@ -236,7 +236,7 @@ module _ (a : AcceptedReading) where
       let m = refused_if (bad_kernel settings_of.opening_kernel) InvalidKernel in
       let p = both_accepted (division_settings settings_of.division) (m then last) parts.1 in
       let q = not_refused (bad_kernel settings_of.opening_kernel) InvalidKernel (both_accepted m last p.1).0 in
-      ((division-says settings_of.division p.0).0, kernel-says settings_of.opening_kernel q)
+      ((division_says settings_of.division p.0).0, kernel_says settings_of.opening_kernel q)
 
   -- the comparisons are 2R(k) + 2R(m), below 24wh
   pub compared : (a.numbers.comparisons ≡ comparisons_of settings_of wide high)

@@ -106,7 +106,7 @@ pub record Marks (g : Geometry) (s : ReadingConfig) (at : ℕ) (bytes u64s bytes
   pub skips :
       part at (tiles_x_of s.grid g.width * tiles_y_of s.grid g.height) bytes'
       ≡ skips s.grid g.width g.height (part 0 (g.width * g.height) bytes)
-  pub bytes-long : length bytes' ≡ length bytes
+  pub bytes_long : length bytes' ≡ length bytes
   pub u64s_long : length u64s' ≡ length u64s
 
 -- what `judge_picture` asks: the opened picture and its skips stand in the byte workspace, and the u64 workspace has
@@ -141,5 +141,5 @@ pub record ReadReady (lent : ReadingLent) : Type 0 where
 pub record ReadDone (lent : ReadingLent) (counts : ReadingCounts) (left : ReadingLeft) : Type 0 where
   pub counted : numbers_of counts ≡ numbers_from lent
   pub leaves : left.dst ≡ marks_from lent
-  pub bytes-long : length left.bytes ≡ length lent.bytes
+  pub bytes_long : length left.bytes ≡ length lent.bytes
   pub u64s_long : length left.u64s ≡ length lent.u64s

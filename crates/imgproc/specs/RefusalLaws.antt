@@ -94,12 +94,12 @@ not_refused true e p = absurd (never e p)
 not_refused false e p = refl
 
 -- with nothing after it
-pub refuses-last : (f : Bool) (e : ImgProcError) → f ≡ true → first (refused_if f e) ≡ Refused e
-refuses-last f e p = refuses f e [] p
+pub refuses_last : (f : Bool) (e : ImgProcError) → f ≡ true → first (refused_if f e) ≡ Refused e
+refuses_last f e p = refuses f e [] p
 
-pub passes-last : (f : Bool) (e : ImgProcError) → f ≡ false → first (refused_if f e) ≡ Accepted
+pub passes_last : (f : Bool) (e : ImgProcError) → f ≡ false → first (refused_if f e) ≡ Accepted
 unfolding first
-passes-last f e p = rw p
+passes_last f e p = rw p
 
 -- ---- a view's layout
 
@@ -140,46 +140,46 @@ module _ (len : ℕ) (g : Geometry) where
 -- ---- settings
 
 -- a kernel that was not refused is 3 at least
-pub kernel-says : (k : ℕ) → bad_kernel k ≡ false → 3 ≤ k
-kernel-says k p = ltb-false k 3 (neither (ltb k 3) _ p).0
+pub kernel_says : (k : ℕ) → bad_kernel k ≡ false → 3 ≤ k
+kernel_says k p = ltb-false k 3 (neither (ltb k 3) _ p).0
 
 -- and odd
 pub kernel_odd : (k : ℕ) → bad_kernel k ≡ false → k % 2 ≡ 1
 kernel_odd k p = omega (arith, eqb-false (k % 2) _ (neither (ltb k 3) _ p).1)
 
 -- nor is the element of accepted settings below 3, and their floor is not 0
-pub division-says : (d : BackgroundDivideConfig) → first (division_settings d) ≡ Accepted
+pub division_says : (d : BackgroundDivideConfig) → first (division_settings d) ≡ Accepted
     → (3 ≤ d.structuring_element) × (0 < d.denominator_floor)
 unfolding division_settings
-division-says d p =
+division_says d p =
     let element = bad_kernel d.structuring_element in
     let floor = eqb d.denominator_floor 0 in
     let n = neither element floor (not_refused (element || floor) InvalidConfiguration p) in
-    (kernel-says d.structuring_element n.0, pos_of_ne-zero (eqb-false d.denominator_floor 0 n.1))
+    (kernel_says d.structuring_element n.0, pos_of_ne-zero (eqb-false d.denominator_floor 0 n.1))
 
 -- ---- two pictures
 
 -- the source's layout refuses before all else
-pub source-refused : (src_len : ℕ) (src : Geometry) (dst_len : ℕ) (dst : Geometry) (rest : Conditions) {e : LumaError}
+pub source_refused : (src_len : ℕ) (src : Geometry) (dst_len : ℕ) (dst : Geometry) (rest : Conditions) {e : LumaError}
     → layout_of src_len src ≡ Invalid e → first (pair_conditions src_len src dst_len dst then rest) ≡ Refused (Image e)
-source-refused src_len src dst_len dst rest i =
+source_refused src_len src dst_len dst rest i =
     then_refused (pair_conditions src_len src dst_len dst) rest
     (then_refused (view_conditions src_len src) _ (view_refused src_len src i))
 
 -- two layouts that their slices hold, of one size, are accepted
-pub pair-taken : {src_len : ℕ} {src : Geometry} {dst_len : ℕ} {dst : Geometry} → Kept src_len src → Kept dst_len dst
+pub pair_taken : {src_len : ℕ} {src : Geometry} {dst_len : ℕ} {dst : Geometry} → Kept src_len src → Kept dst_len dst
     → src.width ≡ dst.width → src.height ≡ dst.height → first (pair_conditions src_len src dst_len dst) ≡ Accepted
-pair-taken {src_len} {src} {dst_len} {dst} s d w h =
+pair_taken {src_len} {src} {dst_len} {dst} s d w h =
     let last = refused_if (not (eqb src.width dst.width && eqb src.height dst.height)) DimensionMismatch in
     then_accepted (view_conditions src_len src) (view_conditions dst_len dst then last)
     (view_accepted src_len src (kept_valid s))
     ∙ then_accepted (view_conditions dst_len dst) last (view_accepted dst_len dst (kept_valid d))
-    ∙ passes-last _ _ (rw (eq-eqb src.width dst.width w, eq-eqb src.height dst.height h))
+    ∙ passes_last _ _ (rw (eq-eqb src.width dst.width w, eq-eqb src.height dst.height h))
 
 -- what an accepted pair says
-pub pair-says : (src_len : ℕ) (src : Geometry) (dst_len : ℕ) (dst : Geometry)
+pub pair_says : (src_len : ℕ) (src : Geometry) (dst_len : ℕ) (dst : Geometry)
     → first (pair_conditions src_len src dst_len dst) ≡ Accepted → Paired src_len src dst_len dst
-pair-says src_len src dst_len dst p =
+pair_says src_len src dst_len dst p =
     let sizes = eqb src.width dst.width && eqb src.height dst.height in
     let last = refused_if (not sizes) DimensionMismatch in
     let a = both_accepted (view_conditions src_len src) (view_conditions dst_len dst then last) p in

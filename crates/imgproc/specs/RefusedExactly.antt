@@ -88,13 +88,13 @@ module _ {cs : Conditions} {lent : BuildLent} {answer : Answer TileCounts} {left
 
 -- ---- the queries, which are lent nothing that they write to
 module _ (q : TileThresholdGrid) (d : List ℕ) where
-  pub threshold-exactly : (x y : ℕ)
+  pub threshold_exactly : (x y : ℕ)
       → Exactly (numbers (pixel_conditions q (length d) x y)) (get_or d (tile_of q x y) 0) (threshold_asked q d x y)
-  threshold-exactly x y = by_list (get_or d (tile_of q x y) 0) (pixel_conditions q (length d) x y) refl
+  threshold_exactly x y = by_list (get_or d (tile_of q x y) 0) (pixel_conditions q (length d) x y) refl
 
-  pub skip-exactly : (x y : ℕ)
+  pub skip_exactly : (x y : ℕ)
       → Exactly (numbers (pixel_conditions q (length d) x y)) (skipped d (tile_of q x y)) (skip_asked q d x y)
-  skip-exactly x y = by_list (skipped d (tile_of q x y)) (pixel_conditions q (length d) x y) refl
+  skip_exactly x y = by_list (skipped d (tile_of q x y)) (pixel_conditions q (length d) x y) refl
 
   pub row_skip_exactly : (y : ℕ)
       → Exactly (numbers (row_conditions q (length d) y))

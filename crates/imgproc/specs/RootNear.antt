@@ -102,14 +102,14 @@ module _ (q k u : ℕ) (s : Short u) (Q : 4503599627370496 ≤ q) where
   floor : 2 ^ (52 + k) ≤ q * 2 ^ k
   floor = le_trans (le_of_eq (pow-add 2 52 k)) (mul-le-mul_right (2 ^ k) Q)
 
-  next-above : q * 2 ^ k < u → (q + 1) * 2 ^ k ≤ u
-  next-above h =
+  next_above : q * 2 ^ k < u → (q + 1) * 2 ^ k ≤ u
+  next_above h =
       let z = multiple u k s (le_trans floor (le_of_lt h)) in
       let l : q < z.0 = lt_of_mul-lt-mul_right (2 ^ k) (lt_of_lt_of_le h (le_of_eq z.1)) in
       le_trans (mul-le-mul_right (2 ^ k) (omega arith)) (le_of_eq (sym z.1))
 
-  next-below : u < (q + 1) * 2 ^ k → u ≤ q * 2 ^ k
-  next-below h = either (dec_le (2 ^ (52 + k)) u)
+  next_below : u < (q + 1) * 2 ^ k → u ≤ q * 2 ^ k
+  next_below h = either (dec_le (2 ^ (52 + k)) u)
     where
       either : Dec (2 ^ (52 + k) ≤ u) → u ≤ q * 2 ^ k
       either (yes g) =
@@ -181,31 +181,31 @@ no_tie a l q k Q (m, t, f, M) e =
 
 module _ (n q k u : ℕ) (s : Short u) (Q : 4503599627370496 ≤ q) (lo : q * 2 ^ k * (q * 2 ^ k) ≤ n)
     (hi : n < (q + 1) * 2 ^ k * ((q + 1) * 2 ^ k)) where
-  down-best : 4 * n < (2 * q + 1) * 2 ^ k * ((2 * q + 1) * 2 ^ k) → Nearer n (q * 2 ^ k) u
-  down-best h = (
-    λ g. lt_of_lt_of_le h (square ((2 * q + 1) * 2 ^ k) (q * 2 ^ k + u) (omega (arith, next-above q k u s Q g))),
+  down_best : 4 * n < (2 * q + 1) * 2 ^ k * ((2 * q + 1) * 2 ^ k) → Nearer n (q * 2 ^ k) u
+  down_best h = (
+    λ g. lt_of_lt_of_le h (square ((2 * q + 1) * 2 ^ k) (q * 2 ^ k + u) (omega (arith, next_above q k u s Q g))),
     λ g. lt_of_lt_of_le (square_lt (q * 2 ^ k + u) (2 * (q * 2 ^ k)) (omega arith)) (omega arith),
   )
 
-  up-best : (2 * q + 1) * 2 ^ k * ((2 * q + 1) * 2 ^ k) < 4 * n → Nearer n ((q + 1) * 2 ^ k) u
-  up-best h = (
+  up_best : (2 * q + 1) * 2 ^ k * ((2 * q + 1) * 2 ^ k) < 4 * n → Nearer n ((q + 1) * 2 ^ k) u
+  up_best h = (
     λ g. lt_of_lt_of_le (omega arith) (square (2 * ((q + 1) * 2 ^ k)) ((q + 1) * 2 ^ k + u) (omega arith)),
-    λ g. lt_of_le_of_lt (square ((q + 1) * 2 ^ k + u) ((2 * q + 1) * 2 ^ k) (omega (arith, next-below q k u s Q g))) h,
+    λ g. lt_of_le_of_lt (square ((q + 1) * 2 ^ k + u) ((2 * q + 1) * 2 ^ k) (omega (arith, next_below q k u s Q g))) h,
   )
 
   nearest_best : (4 * n ≡ (2 * q + 1) * 2 ^ k * ((2 * q + 1) * 2 ^ k) → ⊥) → (o : Ordering)
       → Cmp o (4 * n) ((2 * q + 1) * 2 ^ k * ((2 * q + 1) * 2 ^ k)) → Nearer n (nearest q o * 2 ^ k) u
-  nearest_best z Ordering.lt c = down-best c
+  nearest_best z Ordering.lt c = down_best c
   nearest_best z Ordering.eq c = absurd (z c)
-  nearest_best z Ordering.gt c = subst (λ (x : ℕ). Nearer n (x * 2 ^ k) u) (add-one q) (up-best c)
+  nearest_best z Ordering.gt c = subst (λ (x : ℕ). Nearer n (x * 2 ^ k) u) (add-one q) (up_best c)
 
 -- ---- `nearest_root` of n, from 2 ^ 106 up and below 2 ^ 3172
-below-square : (w b n : ℕ) → w * w ≤ n → n < b * b → w < b
-below-square w b n h k =
+below_square : (w b n : ℕ) → w * w ≤ n → n < b * b → w < b
+below_square w b n h k =
     lt_of_not-le (λ (g : b ≤ w). not-le_of_lt (lt_of_le_of_lt (square b w g) (lt_of_le_of_lt h k)) (le_refl (b * b)))
 
-above-square : (w b n : ℕ) → b * b ≤ n → n < (w + 1) * (w + 1) → b ≤ w
-above-square w b n h k =
+above_square : (w b n : ℕ) → b * b ≤ n → n < (w + 1) * (w + 1) → b ≤ w
+above_square w b n h k =
     le_of_suc-le-suc (lt_of_not-le (λ (g : suc w ≤ b). not-le_of_lt k (le_trans (square (w + 1) b (omega arith)) h)))
 
 module _ (n : ℕ) (least : 2 ^ 53 * 2 ^ 53 ≤ n) (most : n < 2 ^ 1586 * 2 ^ 1586)
@@ -235,13 +235,13 @@ module _ (n : ℕ) (least : 2 ^ 53 * 2 ^ 53 ≤ n) (most : n < 2 ^ 1586 * 2 ^ 15
   q_is = refl
 
   w_lo : 9007199254740992 ≤ w
-  w_lo = above-square w 9007199254740992 n least w_root.1
+  w_lo = above_square w 9007199254740992 n least w_root.1
 
   many : 53 < size w
   many = lt_of_not-le (λ (g : size w ≤ 53). not-le_of_lt (lt_of_lt_of_le (size-lt w) (pow_mono g)) w_lo)
 
   few : size w ≤ 1586
-  few = size-le w 1586 (below-square w (2 ^ 1586) n w_root.0 most)
+  few = size-le w 1586 (below_square w (2 ^ 1586) n w_root.0 most)
 
   k_le : k ≤ 2000
   k_le = omega (arith, k_is, few)
@@ -276,9 +276,9 @@ module _ (n : ℕ) (least : 2 ^ 53 * 2 ^ 53 ≤ n) (most : n < 2 ^ 1586 * 2 ^ 15
       subst (λ (x : Float). HasValue x false (nearest q o * 2 ^ k) (2 ^ 1074)) (sym is_units)
       (units_val binary64 false (nearest q o) k (in_range (nearest q o) k h_le k_le))
 
-  all-best : (u : ℕ) → Short u → Nearer n (nearest q o * 2 ^ k) u
+  all_best : (u : ℕ) → Short u → Nearer n (nearest q o * 2 ^ k) u
   unfolding o
-  all-best u s =
+  all_best u s =
       nearest_best n q k u s q_lo
       (le_trans (square (q * 2 ^ k) w q_down) w_root.0)
       (lt_of_lt_of_le w_root.1 (square (w + 1) ((q + 1) * 2 ^ k) q_up))
@@ -287,4 +287,4 @@ module _ (n : ℕ) (least : 2 ^ 53 * 2 ^ 53 ≤ n) (most : n < 2 ^ 1586 * 2 ^ 15
       (cmp (4 * n) ((2 * q + 1) * 2 ^ k * ((2 * q + 1) * 2 ^ k)))
 
   pub nearest_of_all : (R : ℕ) × HasValue (nearest_root n) false R (2 ^ 1074) × ((u : ℕ) → Short u → Nearer n R u)
-  nearest_of_all = (nearest q o * 2 ^ k, value, all-best)
+  nearest_of_all = (nearest q o * 2 ^ k, value, all_best)

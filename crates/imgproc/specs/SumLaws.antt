@@ -34,10 +34,10 @@ unfolding sum_to
 sum_const b zero = omega arith
 sum_const b (suc n) = rw mul-suc (omega (arith, sum_const b n))
 
-pub sum-split : (f : ℕ → ℕ) (a n : ℕ) → sum_to f (a + n) ≡ sum_to f a + sum_to (λ i. f (a + i)) n
+pub sum_split : (f : ℕ → ℕ) (a n : ℕ) → sum_to f (a + n) ≡ sum_to f a + sum_to (λ i. f (a + i)) n
 unfolding sum_to
-sum-split f a zero = rw (add-zero a, add-zero (sum_to f a))
-sum-split f a (suc n) = rw add-suc (omega (arith, sum-split f a n))
+sum_split f a zero = rw (add-zero a, add-zero (sum_to f a))
+sum_split f a (suc n) = rw add-suc (omega (arith, sum_split f a n))
 
 -- ---- sums over a box
 
@@ -50,17 +50,17 @@ module _ (f : ℕ → ℕ → ℕ) where
   box_left zero = refl
   box_left (suc y) = rw (box_left y)
 
-  pub box-down : (x y : ℕ) → box_sum f x (y + 1) ≡ box_sum f x y + sum_to (λ i. f i y) x
-  box-down x y = sum_more (λ j. sum_to (λ i. f i j) x) y
+  pub box_down : (x y : ℕ) → box_sum f x (y + 1) ≡ box_sum f x y + sum_to (λ i. f i y) x
+  box_down x y = sum_more (λ j. sum_to (λ i. f i j) x) y
 
   pub box_le : (b x y : ℕ) → ((i j : ℕ) → i < x → j < y → f i j ≤ b) → box_sum f x y ≤ b * x * y
   box_le b x y h = sum_le (λ j. sum_to (λ i. f i j) x) (b * x) y (λ j m. sum_le (λ i. f i j) b x (λ i l. h i j l m))
 
   -- two parts of a box side by side
-  pub box-beside : (x m y : ℕ) → box_sum f (x + m) y ≡ box_sum f x y + box_sum (λ i j. f (x + i) j) m y
+  pub box_beside : (x m y : ℕ) → box_sum f (x + m) y ≡ box_sum f x y + box_sum (λ i j. f (x + i) j) m y
   unfolding sum_to
-  box-beside x m zero = refl
-  box-beside x m (suc y) = omega (arith, box-beside x m y, sum-split (λ i. f i y) x m)
+  box_beside x m zero = refl
+  box_beside x m (suc y) = omega (arith, box_beside x m y, sum_split (λ i. f i y) x m)
 
 -- the sum of a rectangle by the sums of the four boxes at its corners
 pub corners : (f : ℕ → ℕ → ℕ) (x y m n : ℕ)
@@ -68,9 +68,9 @@ pub corners : (f : ℕ → ℕ → ℕ) (x y m n : ℕ)
 corners f x y m n =
     omega (
       arith,
-      sum-split (λ j. sum_to (λ i. f i j) (x + m)) y n,
-      sum-split (λ j. sum_to (λ i. f i j) x) y n,
-      box-beside (λ i j. f i (y + j)) x m n,
+      sum_split (λ j. sum_to (λ i. f i j) (x + m)) y n,
+      sum_split (λ j. sum_to (λ i. f i j) x) y n,
+      box_beside (λ i j. f i (y + j)) x m n,
     )
 
 -- ---- a fold by + is a sum
@@ -116,24 +116,24 @@ young a b = go (dec_le a b)
     go (no n) =
         subst (λ (z : ℕ). 2 * (z * b) ≤ b * b + z * z) (add-sub_of_le (le_of_lt (lt_of_not-le n))) (down b (a - b))
 
-young-sum : (f : ℕ → ℕ) (a n : ℕ) → 2 * (a * sum_to f n) ≤ sum_to (λ i. f i * f i) n + a * a * n
+young_sum : (f : ℕ → ℕ) (a n : ℕ) → 2 * (a * sum_to f n) ≤ sum_to (λ i. f i * f i) n + a * a * n
 unfolding sum_to
-young-sum f a zero = omega arith
-young-sum f a (suc n) = omega (arith, young-sum f a n, young a (f n))
+young_sum f a zero = omega arith
+young_sum f a (suc n) = omega (arith, young_sum f a n, young a (f n))
 
-young-box : (f : ℕ → ℕ → ℕ) (a m n : ℕ) → 2 * (a * box_sum f m n) ≤ box_sum (squared f) m n + a * a * (m * n)
+young_box : (f : ℕ → ℕ → ℕ) (a m n : ℕ) → 2 * (a * box_sum f m n) ≤ box_sum (squared f) m n + a * a * (m * n)
 unfolding sum_to
-young-box f a m zero = omega arith
-young-box f a m (suc n) = omega (arith, young-box f a m n, young-sum (λ i. f i n) a m)
+young_box f a m zero = omega arith
+young_box f a m (suc n) = omega (arith, young_box f a m n, young_sum (λ i. f i n) a m)
 
-pub mean-square : (f : ℕ → ℕ → ℕ) (m n : ℕ) → 0 < m * n
+pub mean_square : (f : ℕ → ℕ → ℕ) (m n : ℕ) → 0 < m * n
     → box_sum f m n / (m * n) * (box_sum f m n / (m * n)) ≤ box_sum (squared f) m n / (m * n)
-mean-square f m n p =
+mean_square f m n p =
     let a = box_sum f m n / (m * n) in
     (le-div_iff_mul-le {k = m * n} {x = a * a} {y = box_sum (squared f) m n} p).1
     (omega (
       arith,
-      young-box f a m n,
+      young_box f a m n,
       mul-le-mul_left a (div-mul-le_self (box_sum f m n) (m * n)),
       mul_assoc a a (m * n),
     ))

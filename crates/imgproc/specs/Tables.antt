@@ -38,7 +38,7 @@ Tables d g base ws = TableRows d g base (g.height + 1) ws
 
 -- settings that are accepted
 pub record InRange (config : SauvolaConfig) : Type 0 where
-  pub radius-some : 0 < config.radius
+  pub radius_some : 0 < config.radius
   pub k_small : config.k_milli ≤ 1000
   pub range_some : 0 < config.dynamic_range
 

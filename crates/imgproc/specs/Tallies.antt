@@ -24,8 +24,8 @@ pub raised_none : {t : Tally} {n : ℕ} → n ≡ 0 → Raised t n t
 raised_none e = record { more = omega arith }
 
 -- raised twice: what was counted adds up
-pub raised-twice : {t a b : Tally} {m n l : ℕ} → Raised t m a → Raised a n b → l ≡ m + n → Raised t l b
-raised-twice p q e = record { more = omega (arith, p.more, q.more) }
+pub raised_twice : {t a b : Tally} {m n l : ℕ} → Raised t m a → Raised a n b → l ≡ m + n → Raised t l b
+raised_twice p q e = record { more = omega (arith, p.more, q.more) }
 
 -- the number of comparisons told otherwise
 pub raised_as : {t a : Tally} {m n : ℕ} → Raised t m a → m ≡ n → Raised t n a
@@ -34,8 +34,8 @@ raised_as p e = record { more = omega (arith, p.more) }
 -- ---- room
 
 -- room for a part
-pub room-part : {t : Tally} {n m : ℕ} → HasRoom t n → m ≤ n → HasRoom t m
-room-part r l = record { fits = omega (arith, r.fits) }
+pub room_part : {t : Tally} {n m : ℕ} → HasRoom t n → m ≤ n → HasRoom t m
+room_part r l = record { fits = omega (arith, r.fits) }
 
 -- what is left after raising
 pub room_left : {t a : Tally} {m n l : ℕ} → HasRoom t n → Raised t m a → m + l ≤ n → HasRoom a l

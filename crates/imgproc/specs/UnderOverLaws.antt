@@ -11,7 +11,7 @@ use Rattle.imgproc.specs.Extremes.{Extreme, Order, High, lowest, highest, Betwee
 use Rattle.imgproc.specs.Reach.{low, high, radius, one_block, reach_from, reach_to, reach_box}
 use Rattle.imgproc.specs.Walks.{place}
 use Rattle.imgproc.specs.Morphology.{swept_rect, eroded, dilated, opened, closed}
-use Rattle.imgproc.specs.MorphologyLaws.{reach_in, length-swept, swept-extreme}
+use Rattle.imgproc.specs.MorphologyLaws.{reach_in, length-swept, swept_extreme}
 use Rattle.imgproc.specs.declared.morphology.Operation.{Operation}
 use Rattle.imgproc.specs.declared.morphology.Operation.TheVariants.{Erode, Dilate, Open, Close}
 use Rattle.imgproc.specs.MorphologyCalls.{operated}
@@ -44,10 +44,10 @@ reach_inner k n i odd inner = go (one_block k n i) refl
     go false e = (refl, end)
 
 -- each position reaches whatever is as near as r
-pub near-reached : (k n i j : ℕ) → 0 < k → i < n → j < n → Near (radius k) i j
+pub near_reached : (k n i j : ℕ) → 0 < k → i < n → j < n → Near (radius k) i j
     → Between (reach_from k n j) (reach_to k n j) i
 unfolding reach_from reach_to
-near-reached k n i j K I J near = go (one_block k n j) refl
+near_reached k n i j K I J near = go (one_block k n j) refl
   where
     go : (b : Bool) → one_block k n j ≡ b
         → Between
@@ -64,34 +64,34 @@ near-reached k n i j K I J near = go (one_block k n j) refl
 
 -- a picture that is swept by one order and then by another stands before its source under the first, at inner pixels:
 -- there the second sweep takes the value of a pixel whose own reach holds the source's sample
-pub swept-back : {R R' : ℕ → ℕ → Type 0} {op op' : ℕ → ℕ → ℕ} → Order R op → Order R' op'
+pub swept_back : {R R' : ℕ → ℕ → Type 0} {op op' : ℕ → ℕ → ℕ} → Order R op → Order R' op'
     → (kw kh w h : ℕ) → kw % 2 ≡ 1 → kh % 2 ≡ 1 → (p : List ℕ)
     → InnerBefore R (radius kw) (radius kh) w h
     (pixel (swept_rect op' kw kh w h (swept_rect op kw kh w h p)) w) (pixel p w)
-swept-back {R} {op = op} o o' kw kh w h X Y p x y across down =
+swept_back {R} {op = op} o o' kw kh w h X Y p x y across down =
     let first = swept_rect op kw kh w h p in
     let wide : x < w = omega (arith, across.after) in
     let tall : y < h = omega (arith, down.after) in
-    let second = swept-extreme o' kw kh w h (omega arith) (omega arith) first x y wide tall in
+    let second = swept_extreme o' kw kh w h (omega arith) (omega arith) first x y wide tall in
     let u = second.at.0 in
     let v = second.at.1 in
     let across' : u < w = omega (arith, second.within.0.1, reach_in kw w x (omega arith) wide) in
     let down' : v < h = omega (arith, second.within.1.1, reach_in kh h y (omega arith) tall) in
     let back =
-    (swept-extreme o kw kh w h (omega arith) (omega arith) p u v across' down').bound (x, y) (
-      near-reached kw w x u (omega arith) wide across' (omega (arith, reach_inner kw w x X across)),
-      near-reached kh h y v (omega arith) tall down' (omega (arith, reach_inner kh h y Y down)),
+    (swept_extreme o kw kh w h (omega arith) (omega arith) p u v across' down').bound (x, y) (
+      near_reached kw w x u (omega arith) wide across' (omega (arith, reach_inner kw w x X across)),
+      near_reached kh h y v (omega arith) tall down' (omega (arith, reach_inner kh h y Y down)),
     ) in
     subst (λ (n : ℕ). R n (pixel p w x y)) {x = pixel first w u v} second.is back
 
 module _ (k w h : ℕ) (odd : k % 2 ≡ 1) (p : List ℕ) where
   -- opening ≤ source
   pub opened_under : InnerAtMost k w h (pixel (opened k w h p) w) (pixel p w)
-  opened_under = swept-back lowest highest k k w h odd odd p
+  opened_under = swept_back lowest highest k k w h odd odd p
 
   -- source ≤ closing
-  pub closed-over : InnerAtMost k w h (pixel p w) (pixel (closed k w h p) w)
-  closed-over = swept-back highest lowest k k w h odd odd p
+  pub closed_over : InnerAtMost k w h (pixel p w) (pixel (closed k w h p) w)
+  closed_over = swept_back highest lowest k k w h odd odd p
 
 -- ---- maps of samples
 
@@ -107,10 +107,10 @@ pub pixel_mapped : (f : ℕ → ℕ) (w h : ℕ) (p : List ℕ) → length p ≡
 pixel_mapped f w h p l x y X Y = mapped_at f p (y * w + x) (omega (arith, in_plane w h x y X Y))
 
 -- two packed pictures with the same pixels are the same, even if they have none
-same-picture : (w h : ℕ) (p q : List ℕ) → length p ≡ w * h → length q ≡ w * h
+same_picture : (w h : ℕ) (p q : List ℕ) → length p ≡ w * h → length q ≡ w * h
     → ((x y : ℕ) → x < w → y < h → pixel p w x y ≡ pixel q w x y) → p ≡ q
-same-picture zero h p q l m each = ext_get_or 0 p q (l ∙ sym m) (λ i b. absurd (omega (arith, zero-mul h)))
-same-picture (suc w) h p q l m each =
+same_picture zero h p q l m each = ext_get_or 0 p q (l ∙ sym m) (λ i b. absurd (omega (arith, zero-mul h)))
+same_picture (suc w) h p q l m each =
     is_plane (suc w) h (pixel q (suc w)) p (omega arith) l each
     ∙ sym (is_plane (suc w) h (pixel q (suc w)) q (omega arith) m (λ x y X Y. refl))
 
@@ -126,7 +126,7 @@ module _ {R : ℕ → ℕ → Type 0} {op : ℕ → ℕ → ℕ} (o : Order R op
       (f (pixel (swept_rect op kw kh w h p) w x y))
   mapped_extreme p l x y a b =
       let v = pixel (swept_rect op kw kh w h p) w x y in
-      let e = swept-extreme o kw kh w h X Y p x y a b in
+      let e = swept_extreme o kw kh w h X Y p x y a b in
       let here : (q : ℕ × ℕ) → Inside (reach_box kw kh w h x y) q
       → pixel (map f p) w q.0 q.1 ≡ f (pixel p w q.0 q.1) = λ q i.
       pixel_mapped f w h p l q.0 q.1
@@ -142,10 +142,10 @@ module _ {R : ℕ → ℕ → Type 0} {op : ℕ → ℕ → ℕ} (o : Order R op
   swept_commutes p l =
       let s = swept_rect op kw kh w h p in
       let n = length-swept op kw kh w h p in
-      same-picture w h (swept_rect op kw kh w h (map f p)) (map f s)
+      same_picture w h (swept_rect op kw kh w h (map f p)) (map f s)
       (length-swept op kw kh w h (map f p)) (length-map s f ∙ n)
       (λ x y a b.
-      unique o (swept-extreme o kw kh w h X Y (map f p) x y a b) (mapped_extreme p l x y a b)
+      unique o (swept_extreme o kw kh w h X Y (map f p) x y a b) (mapped_extreme p l x y a b)
       ∙ sym (pixel_mapped f w h s n x y a b))
 
 -- and so with two sweeps, by one order and then by another
@@ -186,8 +186,8 @@ pub cut_at : (level v : ℕ) → v ≤ level → cut level v ≡ 0
 cut_at level v l = rw (le-leb v level l)
 
 -- and 255 above it
-pub cut-above : (level v : ℕ) → level < v → cut level v ≡ 255
-cut-above level v l = rw (lt-leb v level l)
+pub cut_above : (level v : ℕ) → level < v → cut level v ≡ 255
+cut_above level v l = rw (lt-leb v level l)
 
 -- of two choices the first is not above the second, if its test holds wherever the second's does and no number that may
 -- then be chosen is above the other's
@@ -204,14 +204,14 @@ cut_monotone level a b l =
 
 -- so cutting and then eroding, dilating, opening or closing is doing it and then cutting
 module _ (level k w h : ℕ) (K : 0 < k) where
-  pub eroded-cut : Commutes (cut level) w h (eroded k w h)
-  eroded-cut = eroded_commutes (cut level) (cut_monotone level) k w h K
+  pub eroded_cut : Commutes (cut level) w h (eroded k w h)
+  eroded_cut = eroded_commutes (cut level) (cut_monotone level) k w h K
 
-  pub dilated-cut : Commutes (cut level) w h (dilated k w h)
-  dilated-cut = dilated_commutes (cut level) (cut_monotone level) k w h K
+  pub dilated_cut : Commutes (cut level) w h (dilated k w h)
+  dilated_cut = dilated_commutes (cut level) (cut_monotone level) k w h K
 
-  pub opened-cut : Commutes (cut level) w h (opened k w h)
-  opened-cut = opened_commutes (cut level) (cut_monotone level) k w h K
+  pub opened_cut : Commutes (cut level) w h (opened k w h)
+  opened_cut = opened_commutes (cut level) (cut_monotone level) k w h K
 
-  pub closed-cut : Commutes (cut level) w h (closed k w h)
-  closed-cut = closed_commutes (cut level) (cut_monotone level) k w h K
+  pub closed_cut : Commutes (cut level) w h (closed k w h)
+  closed_cut = closed_commutes (cut level) (cut_monotone level) k w h K

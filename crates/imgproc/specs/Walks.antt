@@ -28,11 +28,11 @@ pub place : (k i : ℕ) → 0 < k → (k * (i / k) + i % k ≡ i) × (i % k < k)
 place k i p = (div-add-mod i k, mod-lt i p)
 
 -- tests that agree below n make the same walk
-pub same-walk : (p q : ℕ → Bool) (n : ℕ) → ((i : ℕ) → i < n → p i ≡ q i) → walk p n ≡ walk q n
+pub same_walk : (p q : ℕ → Bool) (n : ℕ) → ((i : ℕ) → i < n → p i ≡ q i) → walk p n ≡ walk q n
 unfolding walk
-same-walk p q zero h = refl
-same-walk p q (suc n) h =
-    let e : walk p n ≡ walk q n = same-walk p q n (λ i l. h i (omega arith)) in
+same_walk p q zero h = refl
+same_walk p q (suc n) h =
+    let e : walk p n ≡ walk q n = same_walk p q n (λ i l. h i (omega arith)) in
     let t : bit (p n) ≡ bit (q n) = ap (λ (b : Bool). bit b) (h n (omega arith)) in
     omega arith
 
@@ -63,10 +63,10 @@ line_walks_le k n = omega (arith, walk_le (forward_at k) n, walk_le (backward_at
 pub lines_walks_le : (k a b : ℕ) → b * line_walks k a ≤ 3 * (a * b)
 lines_walks_le k a b = let h : b * line_walks k a ≤ b * (3 * a) = mul-le-mul_left b (line_walks_le k a) in omega arith
 
-join-walk : (n : ℕ) → walk join_at n ≡ n
+join_walk : (n : ℕ) → walk join_at n ≡ n
 unfolding walk
-join-walk zero = refl
-join-walk (suc n) = let h = join-walk n in omega arith
+join_walk zero = refl
+join_walk (suc n) = let h = join_walk n in omega arith
 
 module _ (k : ℕ) (pos : 0 < k) where
   -- a forward pass makes a comparison at every index but the first of each block
@@ -108,14 +108,14 @@ module _ (k : ℕ) (pos : 0 < k) where
   backward_walk zero = refl
   backward_walk (suc m) =
       let inner : walk (backward_at k (suc m)) m ≡ walk (λ (i : ℕ). forward_at k (suc i)) m =
-      same-walk _ _ m (λ i l. simp (turns i, ne_eqb i (suc m - 1) (λ e. omega arith))) in
+      same_walk _ _ m (λ i l. simp (turns i, ne_eqb i (suc m - 1) (λ e. omega arith))) in
       let last : bit (backward_at k (suc m) m) ≡ 0 = simp (eq-eqb m (suc m - 1) (omega arith)) in
       let none : bit (forward_at k 0) ≡ 0 = simp (zero-mod k) in
       let s = shift_walk (forward_at k) m in
       omega arith
 
   pub line_walks_lem : (n : ℕ) → line_walks k n ≡ 3 * n - 2 * ceiling n k
-  line_walks_lem n = omega (arith, join-walk n, forward_walk n, backward_walk n)
+  line_walks_lem n = omega (arith, join_walk n, forward_walk n, backward_walk n)
 
   pub sweep_walks_lem : (w h : ℕ) → sweep_walks k w h ≡ R k w h
   unfolding R

@@ -15,8 +15,8 @@ module _ {S A : Type 0} {operator : Operator S A} {lent : Loan S} {told : Answer
   exports s t = record { serves = record { answers = refl; leaves = s.leaves; keeps = s.keeps }; tells = tells_as s.answers t }
 
 -- a bare answer hands nothing out, so its number tells all of it
-pub tells-bare : {told : Answer Bare} {number : ℕ} → number ≡ answer_number told → Tells told bare number bare
-tells-bare {told} q = record { answers = q; hands_out = out told }
+pub tells_bare : {told : Answer Bare} {number : ℕ} → number ≡ answer_number told → Tells told bare number bare
+tells_bare {told} q = record { answers = q; hands_out = out told }
   where
     out : (a : Answer Bare) → bare ≡ values_out a bare
     out (accepted bare) = refl

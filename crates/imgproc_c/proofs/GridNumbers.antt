@@ -33,7 +33,7 @@ use Rattle.imgproc.specs.GridCalls.{
   Builds,
 }
 use Rattle.imgproc.specs.Refusals.{first, ◌then◌, refused_if, answer_by, view_conditions}
-use Rattle.imgproc.specs.RefusalLaws.{then_same, refuses, passes, refuses-last}
+use Rattle.imgproc.specs.RefusalLaws.{then_same, refuses, passes, refuses_last}
 use Rattle.imgproc_c.specs.Exports.{Tells}
 use Rattle.imgproc_c.specs.Grid.{method_of, method_conditions, settings, number_conditions, BuildsNumber}
 use Rattle.imgproc_c.proofs.Exporting.{tells_as}
@@ -47,8 +47,8 @@ other_method (suc (suc n)) k range no-midrange no-sauvola = refl
 
 -- a method whose range is 0 is refused, whatever the tile sides are
 out_of_range : (sides : Bool) → first (refused_if (sides || true) InvalidConfiguration) ≡ Refused InvalidConfiguration
-out_of_range true = refuses-last true InvalidConfiguration refl
-out_of_range false = refuses-last true InvalidConfiguration refl
+out_of_range true = refuses_last true InvalidConfiguration refl
+out_of_range false = refuses_last true InvalidConfiguration refl
 
 -- settings with the method of a number are refused by the number or by themselves, and alike
 pub method_same : (s : TileThresholdConfig) (n : ℕ) (k range : Float)

@@ -16,15 +16,15 @@ use Rattle.image.specs.LayoutLaws.{row_inside, kept_valid}
 use Rattle.image.specs.Pixel.{Sets}
 use Rattle.image.specs.Plane.{overwritten}
 use Rattle.image.specs.PlaneLaws.{packed_again}
-use Rattle.image.specs.RowLaws.{row-long}
+use Rattle.image.specs.RowLaws.{row_long}
 use Rattle.image.specs.Row.{row_in}
 use Rattle.image.specs.Copy.{copied_in, packed_in, Packs, Unpacks}
 use Rattle.imgproc_c.specs.Picture.{geometry, SetsNumber, row_room, row_out, RowCopied, PacksNumber, UnpacksNumber}
 
 -- the number of a write's answer makes the export's contract
-pub set-number : (before : List ℕ) (g : Geometry) (x y v : ℕ) {answer : Answer Bare} {number : ℕ} {after : List ℕ}
+pub set_number : (before : List ℕ) (g : Geometry) (x y v : ℕ) {answer : Answer Bare} {number : ℕ} {after : List ℕ}
     → Sets before g x y v answer after → number ≡ answer_number answer → SetsNumber before g x y v number after
-set-number before g x y v s q = record { answers = q ∙ ap answer_number s.answers; sets = record { answers = refl; leaves = s.leaves } }
+set_number before g x y v s q = record { answers = q ∙ ap answer_number s.answers; sets = record { answers = refl; leaves = s.leaves } }
 
 -- a copy of a row is refused as the row is, and else packs the row as a picture of one row
 module _ (d : List ℕ) (g : Geometry) (y : ℕ) (before : List ℕ) {l : Layout} (is : l ≡ row_layout (length d) g y) where
@@ -47,7 +47,7 @@ module _ (d : List ℕ) (g : Geometry) (y : ℕ) (before : List ℕ) {l : Layout
     wide = ap (λ (u : Geometry). u.width) (row_inside (length d) g v y found).0.1
 
     long : length row ≡ g.width
-    long = row-long d g kept y (ltb-true y g.height (row_inside (length d) g v y found).1) own
+    long = row_long d g kept y (ltb-true y g.height (row_inside (length d) g v y found).1) own
 
     line : layout_of (length row) (geometry g.width 1 g.width) ≡ Valid (geometry g.width 1 g.width)
     line = kept_valid (record {
@@ -81,9 +81,9 @@ module _ (d : List ℕ) (g : Geometry) (y : ℕ) (before : List ℕ) {l : Layout
     }
 
 -- the numbers of the two copies' answers make the exports' contracts
-pub packed-number : (src : List ℕ) (g : Geometry) (at : ℕ) (before : List ℕ) {c : Answer Bare} {n : ℕ} {after : List ℕ}
+pub packed_number : (src : List ℕ) (g : Geometry) (at : ℕ) (before : List ℕ) {c : Answer Bare} {n : ℕ} {after : List ℕ}
     → Packs src g at before c after → n ≡ answer_number c → PacksNumber src g at before n after
-packed-number src g at before p q = record { answers = q ∙ ap answer_number p.answers; packs = record { answers = refl; leaves = p.leaves } }
+packed_number src g at before p q = record { answers = q ∙ ap answer_number p.answers; packs = record { answers = refl; leaves = p.leaves } }
 
 pub unpacked_number : (ws : List ℕ) (at : ℕ) (before : List ℕ) (g : Geometry) {c : Answer Bare} {n : ℕ} {after : List ℕ}
     → Unpacks ws at before g c after → n ≡ answer_number c → UnpacksNumber ws at before g n after

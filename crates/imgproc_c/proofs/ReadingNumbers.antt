@@ -46,10 +46,10 @@ lent_with lent z m =
     }
 
 -- the method is refused where the grid's settings would be
-settings-same : (s : ReadingConfig) (n : ℕ) (k range : Float)
+settings_same : (s : ReadingConfig) (n : ℕ) (k range : Float)
     → s.grid.method ≡ method_of n k range → first (reading_settings s) ≡ first (number_settings n s)
 unfolding reading_settings number_settings
-settings-same s n k range is =
+settings_same s n k range is =
     let division = division_settings s.division in
     let kernel = refused_if (bad_kernel s.opening_kernel) InvalidKernel in
     let last = sauvola_settings s.sauvola in
@@ -80,7 +80,7 @@ reads {lent} {used} {told} {left} n k range fits is used-is b t =
     let mine = reading_settings s in
     let theirs = number_settings n s in
     let same : first (reading_conditions lent) ≡ first (number_conditions n lent) =
-    then_same pair pair (mine then room) (theirs then room) refl (then_same mine theirs room room (settings-same s n k range is) refl) in
+    then_same pair pair (mine then room) (theirs then room) refl (then_same mine theirs room room (settings_same s n k range is) refl) in
     record {
       reads = record {
         answers = refl;

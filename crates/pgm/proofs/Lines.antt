@@ -15,16 +15,16 @@ abbrev pub field : ℕ → ℕ → List ℕ
 field n end = decimal n ++ (end ∷ [])
 
 -- it is one byte longer than the number
-pub field-long : (n end : ℕ) → length (field n end) ≡ length (decimal n) + 1
-field-long n end = length-append (decimal n) (end ∷ [])
+pub field_long : (n end : ℕ) → length (field n end) ≡ length (decimal n) + 1
+field_long n end = length-append (decimal n) (end ∷ [])
 
 -- three fields are three numbers with spaces between
 pub fields_three : (a b c end : ℕ) → (field a 32 ++ field b 32) ++ field c end ≡ three a b c end
 fields_three a b c end = simp append_assoc
 
 -- they have one byte more than the digits of each
-pub three-long : (a b c end : ℕ) → length (three a b c end) ≡ length (decimal a) + length (decimal b) + length (decimal c) + 3
-three-long a b c end = simp length-append (omega arith)
+pub three_long : (a b c end : ℕ) → length (three a b c end) ≡ length (decimal a) + length (decimal b) + length (decimal c) + 3
+three_long a b c end = simp length-append (omega arith)
 
 -- two threes are the line of six numbers
 pub threes_line : (a b c d e f : ℕ) → three a b c 32 ++ three d e f 10 ≡ line (a ∷ b ∷ c ∷ d ∷ e ∷ f ∷ [])

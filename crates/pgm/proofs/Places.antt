@@ -6,7 +6,7 @@ use mathlib.Core.List.{List, [], ◌∷◌, ◌++◌}
 use lib.ListN.{length, set, length-append}
 use Rattle.image.specs.Plane.{overwritten}
 use Rattle.image.specs.PlaneLaws.{length-overwritten}
-use Rattle.image.specs.PaintLaws.{overwritten-more}
+use Rattle.image.specs.PaintLaws.{overwritten_more}
 use Rattle.image.specs.WriteLaws.{set_is}
 use Rattle.pgm.specs.Steps.{Puts}
 
@@ -24,7 +24,7 @@ module _ {p : List ℕ} {at : ℕ} {d : List ℕ} {m : ℕ} {e : List ℕ} (firs
   puts_join q r f second s =
       record {
         answers = omega (arith, first.answers, second.answers, length-append p q);
-        leaves = second.leaves ∙ ap₂ (λ (k : ℕ) (l : List ℕ). overwritten k q l) first.answers first.leaves ∙ overwritten-more at p q d (omega arith);
+        leaves = second.leaves ∙ ap₂ (λ (k : ℕ) (l : List ℕ). overwritten k q l) first.answers first.leaves ∙ overwritten_more at p q d (omega arith);
       }
 
   -- and so does one byte

@@ -52,13 +52,13 @@ more n m h e =
     ap (λ (k : ℕ). within k n) e ∙ more_digits m n h
     ∙ ap (λ (ds : List ℕ). ds ++ (digit (n % 10) ∷ [])) (enough m (n / 10) (n / 10) (omega arith) (omega arith))
 
-pub decimal-more : (n : ℕ) → 10 ≤ n → decimal n ≡ decimal (n / 10) ++ (digit (n % 10) ∷ [])
+pub decimal_more : (n : ℕ) → 10 ≤ n → decimal n ≡ decimal (n / 10) ++ (digit (n % 10) ∷ [])
 unfolding decimal
-decimal-more n h = more n (n - 1) h (omega arith)
+decimal_more n h = more n (n - 1) h (omega arith)
 
-pub decimal-two : (n : ℕ) → 10 ≤ n → n < 100 → decimal n ≡ digit (n / 10) ∷ digit (n % 10) ∷ []
-decimal-two n l h =
-    decimal-more n l ∙ ap (λ (ds : List ℕ). ds ++ (digit (n % 10) ∷ [])) (decimal_one (n / 10) (omega arith))
+pub decimal_two : (n : ℕ) → 10 ≤ n → n < 100 → decimal n ≡ digit (n / 10) ∷ digit (n % 10) ∷ []
+decimal_two n l h =
+    decimal_more n l ∙ ap (λ (ds : List ℕ). ds ++ (digit (n % 10) ∷ [])) (decimal_one (n / 10) (omega arith))
 
 -- a fact holds of every decimal text if it holds of one digit, and goes over to one more digit at the end
 module _ (P : ℕ → List ℕ → Type 0) (one : (n : ℕ) → n < 10 → P n (digit n ∷ []))
@@ -72,9 +72,9 @@ module _ (P : ℕ → List ℕ → Type 0) (one : (n : ℕ) → n < 10 → P n (
         (λ l. rw (more_digits f n l) (step n (within f (n / 10)) l (each_within f (n / 10) (omega arith))))
         (small_or n)
 
-    pub each-decimal : (n : ℕ) → P n (decimal n)
+    pub each_decimal : (n : ℕ) → P n (decimal n)
     unfolding decimal
-    each-decimal n = each_within n n (omega arith)
+    each_decimal n = each_within n n (omega arith)
 
 -- ---- the value
 
@@ -84,22 +84,22 @@ value_from v [] = v
 value_from v (d ∷ ds) = value_from (v * 10 + (d - 48)) ds
 
 -- a digit at the end makes ten times the number and the digit
-value_from-last : (v : ℕ) (ds : List ℕ) (d : ℕ) → value_from v (ds ++ (d ∷ [])) ≡ value_from v ds * 10 + (d - 48)
-value_from-last v [] d = refl
-value_from-last v (e ∷ ds) d = value_from-last (v * 10 + (e - 48)) ds d
+value_from_last : (v : ℕ) (ds : List ℕ) (d : ℕ) → value_from v (ds ++ (d ∷ [])) ≡ value_from v ds * 10 + (d - 48)
+value_from_last v [] d = refl
+value_from_last v (e ∷ ds) d = value_from_last (v * 10 + (e - 48)) ds d
 
 -- the text of n names n
-pub decimal-value : (n : ℕ) → value_from 0 (decimal n) ≡ n
-decimal-value n = each-decimal (λ n ds. value_from 0 ds ≡ n)
+pub decimal_value : (n : ℕ) → value_from 0 (decimal n) ≡ n
+decimal_value n = each_decimal (λ n ds. value_from 0 ds ≡ n)
     (λ n s. omega arith)
-    (λ n ds l e. value_from-last 0 ds (digit (n % 10)) ∙ omega arith)
+    (λ n ds l e. value_from_last 0 ds (digit (n % 10)) ∙ omega arith)
     n
 
 -- two numbers are the same if their texts are, with the same byte after each
 pub decimal_once : (n m d : ℕ) → decimal n ++ (d ∷ []) ≡ decimal m ++ (d ∷ []) → n ≡ m
 decimal_once n m d e =
-    let v = sym (value_from-last 0 (decimal n) d) ∙ ap (value_from 0) e ∙ value_from-last 0 (decimal m) d in
-    omega (arith, v, decimal-value n, decimal-value m)
+    let v = sym (value_from_last 0 (decimal n) d) ∙ ap (value_from 0) e ∙ value_from_last 0 (decimal m) d in
+    omega (arith, v, decimal_value n, decimal_value m)
 
 -- ---- digits alone, and the first
 
@@ -116,7 +116,7 @@ all_more (e ∷ ds) d a b h = (h.0, all_more ds d a b h.1)
 -- the text of a number has no byte but digits
 pub decimal_digits : (n : ℕ) → AllDigits (decimal n)
 decimal_digits n =
-    each-decimal (λ n ds. AllDigits ds) (λ n s. ((omega arith, omega arith), tt))
+    each_decimal (λ n ds. AllDigits ds) (λ n s. ((omega arith, omega arith), tt))
     (λ n ds l h. all_more ds (digit (n % 10)) (omega arith) (omega arith) h)
     n
 
@@ -132,7 +132,7 @@ leads_more n (e ∷ ds) h l = λ p. l (omega arith)
 
 -- no number but 0 has a leading zero
 pub decimal_leads : (n : ℕ) → Leads n (decimal n)
-decimal_leads n = each-decimal Leads (λ n s p. omega arith) leads_more n
+decimal_leads n = each_decimal Leads (λ n s p. omega arith) leads_more n
 
 -- ---- how many digits
 
@@ -141,8 +141,8 @@ abbrev pub Short : ℕ → List ℕ → Type 0
 Short n ds = (k : ℕ) → n < 10 ^ suc k → length ds ≤ suc k
 
 -- no number has more digits than it needs
-pub decimal-short : (n : ℕ) → Short n (decimal n)
-decimal-short n = each-decimal Short (λ n s k h. omega arith) more' n
+pub decimal_short : (n : ℕ) → Short n (decimal n)
+decimal_short n = each_decimal Short (λ n s k h. omega arith) more' n
   where
     more' : (n : ℕ) (ds : List ℕ) → 10 ≤ n → Short (n / 10) ds → Short n (ds ++ (digit (n % 10) ∷ []))
     more' n ds l s zero h = absurd (omega arith)

@@ -3,12 +3,12 @@
 use Rattle.std.specs.Prelude.{ℕ, ◌^◌, ◌≤◌, ◌<◌, ◌≡◌, List, [], ◌∷◌, ◌++◌, length, drop}
 use Rattle.std.proofs.Common.{arith, ap, length-append}
 use Rattle.pgm.specs.Decimal.{decimal}
-use Rattle.pgm.specs.DecimalLaws.{decimal-short, decimal_once, AllDigits, decimal_digits, Leads, decimal_leads}
+use Rattle.pgm.specs.DecimalLaws.{decimal_short, decimal_once, AllDigits, decimal_digits, Leads, decimal_leads}
 use Rattle.pgm.specs.Line.{line, refused_line, line_room}
 
 -- a number of 64 bits has at most 20 digits
 pub word_short : (n : ℕ) → n < 2 ^ 64 → length (decimal n) ≤ 20
-word_short n h = decimal-short n 19 (omega arith)
+word_short n h = decimal_short n 19 (omega arith)
 
 -- the line of six numbers fits
 pub counts_fit : (a b c d e f : ℕ) → a < 2 ^ 64 → b < 2 ^ 64 → c < 2 ^ 64 → d < 2 ^ 64 → e < 2 ^ 64 → f < 2 ^ 64 →
@@ -18,8 +18,8 @@ counts_fit a b c d e f A B C D E F =
     (omega (arith, word_short a A, word_short b B, word_short c C, word_short d D, word_short e E, word_short f F))
 
 -- the line of a refusal fits
-pub refused-fits : (n : ℕ) → n < 2 ^ 64 → length (refused_line n) ≤ line_room
-refused-fits n h = simp length-append (omega (arith, word_short n h))
+pub refused_fits : (n : ℕ) → n < 2 ^ 64 → length (refused_line n) ≤ line_room
+refused_fits n h = simp length-append (omega (arith, word_short n h))
 
 -- a refusal's line tells its number
 pub refused_once : (n m : ℕ) → refused_line n ≡ refused_line m → n ≡ m

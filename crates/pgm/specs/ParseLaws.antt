@@ -8,7 +8,7 @@ use Rattle.image.specs.LayoutLaws.{both}
 use Rattle.pgm.specs.declared.Parsed.{Parsed}
 use Rattle.pgm.specs.declared.Parsed.TheVariants.{Picture, Malformed}
 use Rattle.pgm.specs.Form.{side_limit, header, Form, input_limit, PictureFound, parsed_answer, Answers}
-use Rattle.pgm.specs.FormLaws.{same-header, form_short}
+use Rattle.pgm.specs.FormLaws.{same_header, form_short}
 use Rattle.pgm.specs.Parse.{begins, formed, sides, sought, parsed_of, parsed_from}
 
 -- ---- the form as a test
@@ -22,9 +22,9 @@ begins_true (x ∷ text) (b ∷ bytes) e =
     let r = begins_true text bytes p.1 in
     ap (λ (y : ℕ). y ∷ bytes) q ∙ ap (λ (l : List ℕ). x ∷ l) r
 
-begins-append : (text rest : List ℕ) → begins text (text ++ rest) ≡ true
-begins-append [] rest = refl
-begins-append (x ∷ text) rest = rw (eq-eqb x x refl, begins-append text rest)
+begins_append : (text rest : List ℕ) → begins text (text ++ rest) ≡ true
+begins_append [] rest = refl
+begins_append (x ∷ text) rest = rw (eq-eqb x x refl, begins_append text rest)
 
 formed_form : (input : List ℕ) (w h : ℕ) → w ≤ side_limit → h ≤ side_limit → formed input w h ≡ true → Form input w h
 formed_form input w h ww hh e =
@@ -43,7 +43,7 @@ form_formed input w h f =
     let start = header w h in
     let l : length input ≡ length start + w * h =
     ap length f.whole ∙ length-append start f.pixels ∙ omega (arith, f.counted) in
-    let b : begins start input ≡ true = ap (begins start) f.whole ∙ begins-append start f.pixels in
+    let b : begins start input ≡ true = ap (begins start) f.whole ∙ begins_append start f.pixels in
     rw (eq-eqb (length input) (length start + w * h) l, b)
 
 -- ---- what is sought is found
@@ -53,12 +53,12 @@ abbrev Found : List ℕ → ℕ → Parsed → Type 0
 Found input n (Picture w h at) = Form input w h × (at ≡ length (header w h))
 Found input n Malformed = (k : ℕ) → k < n → formed input (k / sides) (k % sides) ≡ false
 
-found-more : (input : List ℕ) (n : ℕ) (b : Bool) (r : Parsed) → n < sides * sides →
+found_more : (input : List ℕ) (n : ℕ) (b : Bool) (r : Parsed) → n < sides * sides →
     formed input (n / sides) (n % sides) ≡ b → Found input n r →
     Found input (suc n) (cond b (Picture (n / sides) (n % sides) (length (header (n / sides) (n % sides)))) r)
-found-more input n true r l e k = (formed_form input (n / sides) (n % sides) (omega arith) (omega arith) e, refl)
-found-more input n false (Picture w h at) l e k = k
-found-more input n false Malformed l e k = λ i p. either i p (eqb i n) refl
+found_more input n true r l e k = (formed_form input (n / sides) (n % sides) (omega arith) (omega arith) e, refl)
+found_more input n false (Picture w h at) l e k = k
+found_more input n false Malformed l e k = λ i p. either i p (eqb i n) refl
   where
     either : (i : ℕ) → i < suc n → (b : Bool) → eqb i n ≡ b → formed input (i / sides) (i % sides) ≡ false
     either i p true q = ap (λ (j : ℕ). formed input (j / sides) (j % sides)) (eqb-true i n q) ∙ e
@@ -69,11 +69,11 @@ unfolding sought
 found input zero l = λ i p. absurd (omega arith)
 found input (suc n) l =
     let here = formed input (n / sides) (n % sides) in
-    found-more input n here (sought input n) (omega arith) refl (found input n (omega arith))
+    found_more input n here (sought input n) (omega arith) refl (found input n (omega arith))
 
-answers-found : (input : List ℕ) (r : Parsed) → Found input (sides * sides) r → Answers input r
-answers-found input (Picture w h at) k = k
-answers-found input Malformed k = λ w h f.
+answers_found : (input : List ℕ) (r : Parsed) → Found input (sides * sides) r → Answers input r
+answers_found input (Picture w h at) k = k
+answers_found input Malformed k = λ w h f.
     let n = w * sides + h in
     let i : n / sides ≡ w = omega (arith, f.wide, f.high) in
     let j : n % sides ≡ h = omega (arith, f.wide, f.high) in
@@ -85,14 +85,14 @@ answers-found input Malformed k = λ w h f.
 -- what is parsed of an input meets `Answers`, and nothing else does
 pub parsed_answers : (input : List ℕ) → Answers input (parsed_of input)
 unfolding parsed_of
-parsed_answers input = answers-found input (sought input (sides * sides)) (found input (sides * sides) (omega arith))
+parsed_answers input = answers_found input (sought input (sides * sides)) (found input (sides * sides) (omega arith))
 
 pub parsed_once : (input : List ℕ) (r s : Parsed) → Answers input r → Answers input s → r ≡ s
 parsed_once input (Picture w h at) (Picture v g to) p q =
     let f = p.0 in
     let k = q.0 in
     let same = sym f.whole ∙ k.whole in
-    let s = same-header w h v g f.pixels k.pixels f.wide f.high k.wide k.high same in
+    let s = same_header w h v g f.pixels k.pixels f.wide f.high k.wide k.high same in
     let a : w ≡ v = s.0 in
     let b : h ≡ g = s.1.0 in
     let l : length (header w h) ≡ length (header v g) = rw (a, b) in

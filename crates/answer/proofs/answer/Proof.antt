@@ -2,7 +2,7 @@
 use borrow.Author.Rules.{rules}
 use mathlib.Core.Path.{refl}
 use Rattle.pgm.specs.ParseLaws.{parsed_as}
-use Rattle.answer.proofs.answer.Proof.Inputs.{pixels-start, answers-picture, answers-other}
+use Rattle.answer.proofs.answer.Proof.Inputs.{pixels_start, answers_picture, answers_other}
 use Rattle.answer.proofs.answer.Statement.{statement}
 use Rattle.answer.proofs.answer.Tie as tie
 mod Inputs
@@ -28,7 +28,7 @@ returns c =
     let told = call.before.before in
     let parsed = told.before.before in
     let a = parsed.before.before.before.before.before.before.args in
-    answers-other a.input.now (parsed_as a.input.now told.enum_told.given.1 parsed.parse.ensures)
+    answers_other a.input.now (parsed_as a.input.now told.enum_told.given.1 parsed.parse.ensures)
     (record { writes = call.refused-line.ensures; dst_left = refl; bytes_left = refl; u64s_left = refl })
 
 sub-answer-picture : tie.Need-overflow-sub-answer-picture
@@ -36,14 +36,14 @@ sub-answer-picture c =
     let told = c.before in
     let parsed = told.before.before in
     let l = parsed.before.before.before.before.before.before.args.input.now in
-    pixels-start l _ _ _ (parsed_as l told.width.given.1 parsed.parse.ensures)
+    pixels_start l _ _ _ (parsed_as l told.width.given.1 parsed.parse.ensures)
 
 part-answer-picture-start : tie.Need-slice-bounds-answer-picture-start
 part-answer-picture-start c =
     let told = c.before in
     let parsed = told.before.before in
     let l = parsed.before.before.before.before.before.before.args.input.now in
-    pixels-start l _ _ _ (parsed_as l told.width.given.1 parsed.parse.ensures)
+    pixels_start l _ _ _ (parsed_as l told.width.given.1 parsed.parse.ensures)
 
 part-answer-picture-end : tie.Need-slice-bounds-answer-picture-end
 part-answer-picture-end c = search rules
@@ -70,7 +70,7 @@ returns_2 c =
     let parsed = told.before.before in
     let a = parsed.before.before.before.before.before.before.args in
     let l = a.input.now in
-    answers-picture l _ _ _ (parsed_as l told.width.given.1 parsed.parse.ensures) call.answer-picture.ensures
+    answers_picture l _ _ _ (parsed_as l told.width.given.1 parsed.parse.ensures) call.answer-picture.ensures
 
 pub answer-spec : {M : Type 1} → statement M
 answer-spec =

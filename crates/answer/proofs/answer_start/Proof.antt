@@ -2,7 +2,7 @@
 use borrow.Author.Rules.{rules}
 use native.Mathlib.Omega.{arith}
 use Rattle.answer.specs.Program.{program_line}
-use Rattle.answer.specs.ProgramLaws.{line-start, printed, prints_start}
+use Rattle.answer.specs.ProgramLaws.{line_start, printed, prints_start}
 use Rattle.answer.proofs.answer_start.Statement.{statement}
 use Rattle.answer.proofs.answer_start.Tie as tie
 
@@ -16,7 +16,7 @@ returns : tie.Need-returns
 returns c =
     let read = c.before.before.before in
     let a = read.before.args in
-    prints_start program_line line-start a.buffer.now a.n _ a.line.now _ read.read-part.ensures
+    prints_start program_line line_start a.buffer.now a.n _ a.line.now _ read.read-part.ensures
     (printed _ a.line.now _ (omega arith) c.answer-and-mark.ensures.writes)
 
 pub answer-start-spec : {M : Type 1} → statement M

@@ -5,7 +5,7 @@ use mathlib.Core.Path.{refl, sym}
 use lib.Seq.{length-take-le}
 use Rattle.pgm.specs.declared.Parsed.TheVariants.{Malformed}
 use Rattle.pgm.specs.ParseLaws.{parsed_as}
-use Rattle.column.proofs.draw.Proof.Drawn.{lined, undrawn, undrawn-wide, undrawn-high, length_marks, room_rows, drawn}
+use Rattle.column.proofs.draw.Proof.Drawn.{lined, undrawn, undrawn_wide, undrawn_high, length-marks, room_rows, drawn}
 use Rattle.column.proofs.draw.Statement.{statement}
 use Rattle.column.proofs.draw.Tie as tie
 mod Drawn
@@ -54,7 +54,7 @@ returns_2 c =
     let input = start.args.input.now in
     let made = call.answer-and-mark in
     let l = lined {input = input} {out = start.args.out.now} start.requires (omega arith) made.auto.1.1.0 made.ensures in
-    undrawn-wide l _ _ _ (parsed_as input told.width.given.1 parsed.parse.ensures) c.if1.true
+    undrawn_wide l _ _ _ (parsed_as input told.width.given.1 parsed.parse.ensures) c.if1.true
 
 same-length-3 : tie.Need-same-length-3
 same-length-3 c = search rules
@@ -68,7 +68,7 @@ returns-3 c =
     let input = start.args.input.now in
     let made = call.answer-and-mark in
     let l = lined {input = input} {out = start.args.out.now} start.requires (omega arith) made.auto.1.1.0 made.ensures in
-    undrawn-high l _ _ _ (parsed_as input told.width.given.1 parsed.parse.ensures) c.before.if1.false c.if2.true
+    undrawn_high l _ _ _ (parsed_as input told.width.given.1 parsed.parse.ensures) c.before.if1.false c.if2.true
 
 slice-aggregate-draw-rows : tie.Need-slice-aggregate-draw-rows
 slice-aggregate-draw-rows c =
@@ -79,7 +79,7 @@ slice-aggregate-draw-rows c =
     let input = start.args.input.now in
     let made = call.answer-and-mark in
     let l = lined {input = input} {out = start.args.out.now} start.requires (omega arith) made.auto.1.1.0 made.ensures in
-    sym (length_marks l _ _ _ (parsed_as input told.width.given.1 parsed.parse.ensures) c.before.before.if1.false c.before.if2.false)
+    sym (length-marks l _ _ _ (parsed_as input told.width.given.1 parsed.parse.ensures) c.before.before.if1.false c.before.if2.false)
 
 draw-rows-requires : tie.Need-draw-rows-requires
 draw-rows-requires c κs =

@@ -5,7 +5,7 @@ use mathlib.Core.Path.{◌≡◌, refl, sym, ap, ◌∙◌}
 use mathlib.Core.List.{List}
 use Rattle.image.specs.Plane.{tabulate, overwritten}
 use Rattle.image.specs.PlaneLaws.{plane_tabulated}
-use Rattle.image.specs.WriteLaws.{written_none, written-more, length-written}
+use Rattle.image.specs.WriteLaws.{written_none, written_more, length-written}
 use Rattle.column.proofs.draw_rows.Proof.Rows.{laid, inside}
 use Rattle.column.proofs.draw_rows.Statement.{statement}
 use Rattle.column.proofs.draw_rows.Tie as tie
@@ -39,8 +39,8 @@ row-byte-requires c κs =
     let s = c.before.before.before.before in
     inside s.args.width s.args.height c.before.loop.i _ s.requires.holds (omega arith)
 
-add-out : tie.Need-overflow-add-out invariant-loop decreases-loop
-add-out c = omega arith
+add_out : tie.Need-overflow-add-out invariant-loop decreases-loop
+add_out c = omega arith
 
 slice_write_out : tie.Need-slice-write-out invariant-loop decreases-loop
 slice_write_out c =
@@ -61,7 +61,7 @@ loop-again c =
     let l = c.before.before.loop in
     let f = laid s.args.pixels.now s.args.width in
     let e = c.row-byte.ensures in
-    (omega arith, written-more f s.args.at l.i _ s.args.out.now l.out (omega (arith, s.requires.fits)) l.invariant.1 e)
+    (omega arith, written_more f s.args.at l.i _ s.args.out.now l.out (omega (arith, s.requires.fits)) l.invariant.1 e)
 
 add_result : tie.Need-overflow-add-result invariant-loop decreases-loop
 add_result c = omega arith
@@ -97,7 +97,7 @@ draw-rows-spec =
     rem-row-byte
     div-row-byte
     row-byte-requires
-    add-out
+    add_out
     slice_write_out
     add-i
     loop-less

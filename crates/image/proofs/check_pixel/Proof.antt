@@ -1,6 +1,6 @@
 -- `check_pixel` passes the layout's refusal on, and else tests the place. Assumes nothing.
 use borrow.Author.Rules.{rules}
-use Rattle.image.proofs.Ways.{pixel-refused, pixel-right, pixel-below, pixel-within}
+use Rattle.image.proofs.Ways.{pixel_refused, pixel_right, pixel_below, pixel_within}
 use Rattle.image.proofs.check_pixel.Statement.{statement}
 use Rattle.image.proofs.check_pixel.Tie as tie
 
@@ -17,14 +17,14 @@ returns : tie.Need-returns
 returns c =
     let l = c.before.before in
     let a = l.before.args in
-    pixel-refused a.len a.geometry l.validate-layout.ensures a.x a.y c.enum_told.given.1
+    pixel_refused a.len a.geometry l.validate-layout.ensures a.x a.y c.enum_told.given.1
 
 returns_2 : tie.Need-returns-2
 returns_2 c =
     let v = c.before.before.before in
     let l = v.before.before in
     let a = l.before.args in
-    pixel-right a.len a.geometry l.validate-layout.ensures a.x a.y v.layout.given.1 c.if1.true
+    pixel_right a.len a.geometry l.validate-layout.ensures a.x a.y v.layout.given.1 c.if1.true
 
 returns-3 : tie.Need-returns-3
 returns-3 c =
@@ -32,7 +32,7 @@ returns-3 c =
     let v = e.before.before.before in
     let l = v.before.before in
     let a = l.before.args in
-    pixel-below a.len a.geometry l.validate-layout.ensures a.x a.y v.layout.given.1 e.if1.false c.if2.true
+    pixel_below a.len a.geometry l.validate-layout.ensures a.x a.y v.layout.given.1 e.if1.false c.if2.true
 
 returns-4 : tie.Need-returns-4
 returns-4 c =
@@ -40,7 +40,7 @@ returns-4 c =
     let v = e.before.before.before in
     let l = v.before.before in
     let a = l.before.args in
-    pixel-within a.len a.geometry l.validate-layout.ensures a.x a.y v.layout.given.1 e.if1.false c.if2.false
+    pixel_within a.len a.geometry l.validate-layout.ensures a.x a.y v.layout.given.1 e.if1.false c.if2.false
 
 pub check-pixel-spec : {M : Type 1} → statement M
 check-pixel-spec =

@@ -1,6 +1,6 @@
 -- `check_row` passes the layout's refusal on, and else tests the row. Assumes nothing.
 use borrow.Author.Rules.{rules}
-use Rattle.image.proofs.Ways.{row-refused, row-outside, row_within}
+use Rattle.image.proofs.Ways.{row_refused, row_outside, row_within}
 use Rattle.image.proofs.check_row.Statement.{statement}
 use Rattle.image.proofs.check_row.Tie as tie
 
@@ -17,14 +17,14 @@ returns : tie.Need-returns
 returns c =
     let l = c.before.before in
     let a = l.before.args in
-    row-refused a.len a.geometry l.validate-layout.ensures a.y c.enum_told.given.1
+    row_refused a.len a.geometry l.validate-layout.ensures a.y c.enum_told.given.1
 
 returns_2 : tie.Need-returns-2
 returns_2 c =
     let v = c.before.before.before in
     let l = v.before.before in
     let a = l.before.args in
-    row-outside a.len a.geometry l.validate-layout.ensures a.y v.layout.given.1 c.if1.true
+    row_outside a.len a.geometry l.validate-layout.ensures a.y v.layout.given.1 c.if1.true
 
 returns-3 : tie.Need-returns-3
 returns-3 c =

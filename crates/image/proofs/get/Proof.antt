@@ -2,7 +2,7 @@
 use borrow.Author.Rules.{rules}
 use native.Mathlib.Omega.{arith}
 use lib.ListN.{length}
-use Rattle.image.proofs.Places.{pixel-place, value-refused, value_found}
+use Rattle.image.proofs.Places.{pixel_place_lem, value_refused, value_found}
 use Prim.Native.Nat.{◌+◌, ◌*◌, ◌<◌}
 use Rattle.image.proofs.get.Statement.{statement}
 use Rattle.image.proofs.get.Tie as tie
@@ -23,7 +23,7 @@ returns : tie.Need-returns
 returns c =
     let l = c.before.before.before in
     let a = l.before.before.args in
-    value-refused a.«data».now a.geometry a.x a.y l.check-pixel.ensures c.before.enum_told.given.1 c.refusal.ensures
+    value_refused a.«data».now a.geometry a.x a.y l.check-pixel.ensures c.before.enum_told.given.1 c.refusal.ensures
 
 -- the pixel's byte lies in the slice
 place : (c : tie.After-known-told) →
@@ -32,7 +32,7 @@ place : (c : tie.After-known-told) →
 place c =
     let l = c.before.before.before in
     let a = l.before.before.args in
-    pixel-place (length a.«data».now) a.geometry a.x a.y l.check-pixel.ensures c.before.layout.given.1
+    pixel_place_lem (length a.«data».now) a.geometry a.x a.y l.check-pixel.ensures c.before.layout.given.1
 
 mul-t8 : tie.Need-overflow-mul-t8
 mul-t8 c = omega (arith, place c)

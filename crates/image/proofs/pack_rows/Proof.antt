@@ -4,8 +4,8 @@ use native.Mathlib.Omega.{arith}
 use Prim.Native.Nat.{◌+◌, ◌-◌, ◌*◌, ◌≤◌}
 use mathlib.Core.Path.{sym, ◌∙◌}
 use lib.ListN.{length}
-use Rattle.image.specs.FillLaws.{Filled, fill_start, fill-same, fill_done, fill-fits, fill-next, lent_row}
-use Rattle.image.specs.RowLaws.{row-long, row-pixel}
+use Rattle.image.specs.FillLaws.{Filled, fill_start, fill_same, fill_done, fill_fits, fill_next, lent_row}
+use Rattle.image.specs.RowLaws.{row_long, row_pixel}
 use Rattle.image.specs.Plane.{pixel, packed}
 use Rattle.image.proofs.pack_rows.Statement.{statement}
 use Rattle.image.proofs.pack_rows.Tie as tie
@@ -29,7 +29,7 @@ fits : (c : tie.In-loop invariant-loop decreases-loop) →
 fits c =
     let s = c.before.before.before.before in
     let a = s.args in
-    fill-fits a.geometry.width a.geometry.height (pixel a.src.now a.geometry.stride) a.at a.workspace.now s.requires.1
+    fill_fits a.geometry.width a.geometry.height (pixel a.src.now a.geometry.stride) a.at a.workspace.now s.requires.1
     c.before.loop.y c.before.loop.invariant c.loop-test.true
 
 -- and in the workspace as it was lent
@@ -41,7 +41,7 @@ fits-before c =
     omega (
       arith,
       fits c,
-      fill-same a.geometry.width a.geometry.height (pixel a.src.now a.geometry.stride) a.at a.workspace.now s.requires.1
+      fill_same a.geometry.width a.geometry.height (pixel a.src.now a.geometry.stride) a.at a.workspace.now s.requires.1
           c.before.loop.y c.before.loop.invariant,
     )
 
@@ -72,7 +72,7 @@ copy-row-requires c κs =
     let s = i.before.before.before.before in
     let a = s.args in
     let to = a.at + i.before.loop.y * a.geometry.width in
-    row-long a.src.now a.geometry s.requires.0 i.before.loop.y i.loop-test.true c.before.row.ensures.bytes
+    row_long a.src.now a.geometry s.requires.0 i.before.loop.y i.loop-test.true c.before.row.ensures.bytes
     ∙ sym (lent_row to a.geometry.width i.before.loop.workspace (fits i))
 
 add-y : tie.Need-overflow-add-y invariant-loop decreases-loop
@@ -90,16 +90,16 @@ loop-again c =
     let a = s.args in
     let row = p.copy-row.new.1.0 in
     let e = p.copy-row.ensures ∙ r.row.ensures.bytes in
-    fill-next a.geometry.width a.geometry.height (pixel a.src.now a.geometry.stride) a.at a.workspace.now s.requires.1
+    fill_next a.geometry.width a.geometry.height (pixel a.src.now a.geometry.stride) a.at a.workspace.now s.requires.1
     i.before.loop.y i.before.loop.invariant i.loop-test.true row s.requires.0.wide
-    (row-long a.src.now a.geometry s.requires.0 i.before.loop.y i.loop-test.true e)
-    (row-pixel a.src.now a.geometry s.requires.0 i.before.loop.y i.loop-test.true e)
+    (row_long a.src.now a.geometry s.requires.0 i.before.loop.y i.loop-test.true e)
+    (row_pixel a.src.now a.geometry s.requires.0 i.before.loop.y i.loop-test.true e)
 
 same_length : tie.Need-same-length invariant-loop decreases-loop
 same_length c =
     let s = c.before.before.before.before in
     let a = s.args in
-    fill-same a.geometry.width a.geometry.height (pixel a.src.now a.geometry.stride) a.at a.workspace.now s.requires.1
+    fill_same a.geometry.width a.geometry.height (pixel a.src.now a.geometry.stride) a.at a.workspace.now s.requires.1
     c.before.loop.y c.before.loop.invariant
 
 returns : tie.Need-returns invariant-loop decreases-loop

@@ -4,7 +4,7 @@ use native.Mathlib.Omega.{arith}
 use lib.ListN.{length}
 use mathlib.Core.Path.{refl}
 use Prim.Native.Nat.{◌+◌, ◌*◌, ◌≤◌}
-use Rattle.image.proofs.Places.{row-place, row-empty, row-found}
+use Rattle.image.proofs.Places.{row_place_lem, row_empty, row_found}
 use Rattle.image.proofs.row_mut.Statement.{statement}
 use Rattle.image.proofs.row_mut.Tie as tie
 
@@ -30,7 +30,7 @@ returns : tie.Need-returns
 returns c =
     let l = c.before.before.before in
     let a = l.before.before.args in
-    row-empty a.«data» a.geometry a.y l.check-row.ensures c.before.enum_told.given.1 refl refl
+    row_empty a.«data» a.geometry a.y l.check-row.ensures c.before.enum_told.given.1 refl refl
 
 -- the row lies in the slice
 place : (c : tie.After-known-told) →
@@ -39,7 +39,7 @@ place : (c : tie.After-known-told) →
 place c =
     let l = c.before.before.before in
     let a = l.before.before.args in
-    row-place (length a.«data».now) a.geometry a.y l.check-row.ensures c.before.g.given.1
+    row_place_lem (length a.«data».now) a.geometry a.y l.check-row.ensures c.before.g.given.1
 
 mul-start : tie.Need-overflow-mul-start
 mul-start c = omega (arith, place c.before)
@@ -61,7 +61,7 @@ returns_2 c =
     let v = c.before.before.before.before in
     let l = v.before.before in
     let a = l.before.before.args in
-    row-found a.«data» a.geometry a.y l.check-row.ensures v.g.given.1 refl refl
+    row_found a.«data» a.geometry a.y l.check-row.ensures v.g.given.1 refl refl
 
 pub row-mut-spec : {M : Type 1} → statement M
 row-mut-spec =

@@ -2,7 +2,7 @@
 use borrow.Author.Rules.{rules}
 use native.Mathlib.Omega.{arith}
 use lib.ListN.{length}
-use Rattle.image.proofs.Places.{pixel-place, set-refused, set-done}
+use Rattle.image.proofs.Places.{pixel_place_lem, set_refused, set_done}
 use Prim.Native.Nat.{◌+◌, ◌*◌, ◌<◌}
 use Rattle.image.proofs.set.Statement.{statement}
 use Rattle.image.proofs.set.Tie as tie
@@ -23,7 +23,7 @@ returns : tie.Need-returns
 returns c =
     let l = c.before.before.before in
     let a = l.before.before.args in
-    set-refused a.«data».now a.geometry a.x a.y l.check-pixel.ensures a.value c.before.enum_told.given.1 c.refusal.ensures
+    set_refused a.«data».now a.geometry a.x a.y l.check-pixel.ensures a.value c.before.enum_told.given.1 c.refusal.ensures
 
 -- the pixel's byte lies in the slice
 place : (c : tie.After-known-told) →
@@ -32,7 +32,7 @@ place : (c : tie.After-known-told) →
 place c =
     let l = c.before.before.before in
     let a = l.before.before.args in
-    pixel-place (length a.«data».now) a.geometry a.x a.y l.check-pixel.ensures c.before.layout.given.1
+    pixel_place_lem (length a.«data».now) a.geometry a.x a.y l.check-pixel.ensures c.before.layout.given.1
 
 mul-data : tie.Need-overflow-mul-data
 mul-data c = omega (arith, place c)
@@ -50,7 +50,7 @@ returns_2 : tie.Need-returns-2
 returns_2 c =
     let l = c.before.before.before in
     let a = l.before.before.args in
-    set-done a.«data».now a.geometry a.x a.y l.check-pixel.ensures a.value c.before.layout.given.1
+    set_done a.«data».now a.geometry a.x a.y l.check-pixel.ensures a.value c.before.layout.given.1
 
 pub set_spec : {M : Type 1} → statement M
 set_spec =

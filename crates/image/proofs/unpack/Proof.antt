@@ -6,7 +6,7 @@ use lib.ListN.{length}
 use Rattle.image.specs.declared.Geometry.{Geometry}
 use Rattle.image.specs.Answers.{accepted, bare}
 use Rattle.image.specs.Copy.{unpacked_in}
-use Rattle.image.proofs.Rooms.{copied_refused, kept_here, same_here, area-fits, copied_short, copied_done, unpacks}
+use Rattle.image.proofs.Rooms.{copied_refused, kept_here, same_here, area_fits, copied_short, copied_done, unpacks}
 use Rattle.image.proofs.unpack.Statement.{statement}
 use Rattle.image.proofs.unpack.Tie as tie
 
@@ -47,7 +47,7 @@ mul-if2 c =
     let v = c.before.before in
     let l = v.before.before in
     let a = l.before.before.before.args in
-    record { fits = area-fits (length a.dst.now) a.geometry a.at (length a.workspace.now) l.validate-layout.ensures v.layout.given.1 }
+    record { fits = area_fits (length a.dst.now) a.geometry a.at (length a.workspace.now) l.validate-layout.ensures v.layout.given.1 }
 
 returns-3 : tie.Need-returns-3
 returns-3 c =

@@ -6,7 +6,7 @@ use mathlib.Core.Path.{◌≡◌, refl, sym, ◌∙◌}
 use lib.ListN.{length}
 use Rattle.image.specs.LayoutLaws.{row_within}
 use Rattle.image.specs.Plane.{part}
-use Rattle.image.specs.PaintRows.{RowsPainted, rows_start, rows_same, rows_done, row_fits, part-long, rows_next}
+use Rattle.image.specs.PaintRows.{RowsPainted, rows_start, rows_same, rows_done, row_fits, part_long, rows_next}
 use Rattle.image.proofs.unpack_rows.Proof.Planes.{from_fits, from_long, from_pixel}
 use Rattle.image.proofs.unpack_rows.Statement.{statement}
 use Rattle.image.proofs.unpack_rows.Tie as tie
@@ -81,7 +81,7 @@ copy-row-requires c κs =
     let k = s.requires.0 in
     let y = i.before.loop.y in
     from_long a.workspace.now a.at a.geometry.width a.geometry.height s.requires.1 y i.loop-test.true refl
-    ∙ sym (part-long _ _ _ _ _ y i.before.loop.invariant k.wide k.stride (row_within k y i.loop-test.true))
+    ∙ sym (part_long _ _ _ _ _ y i.before.loop.invariant k.wide k.stride (row_within k y i.loop-test.true))
 
 add-y : tie.Need-overflow-add-y invariant-loop decreases-loop
 add-y c = let i = c.before.before.before.before.before in omega (arith, i.loop-test.true, i.before.before.before.before.requires.0.small_height)

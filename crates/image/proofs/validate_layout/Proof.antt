@@ -1,6 +1,6 @@
 -- `validate_layout` gives the first refusal that fits. Each way out is a law of Ways. Assumes nothing.
 use borrow.Author.Rules.{rules}
-use Rattle.image.proofs.Ways.{no_width, no_height, short-stride, no_row, few_rows, too_wide, too_high, fits}
+use Rattle.image.proofs.Ways.{no_width, no_height, short_stride, no_row, few_rows, too_wide, too_high, fits}
 use Rattle.image.proofs.validate_layout.Statement.{statement}
 use Rattle.image.proofs.validate_layout.Tie as tie
 
@@ -13,7 +13,7 @@ returns_2 c = no_height c.before.before.args.len c.before.before.args.geometry c
 returns-3 : tie.Need-returns-3
 returns-3 c =
     let s = c.before.before.before in
-    short-stride s.args.len s.args.geometry c.before.before.if1.false c.before.if2.false c.if3.true
+    short_stride s.args.len s.args.geometry c.before.before.if1.false c.before.if2.false c.if3.true
 
 returns-4 : tie.Need-returns-4
 returns-4 c =

@@ -18,7 +18,7 @@ use Rattle.imgproc.specs.GridCalls.{grid_settings, BuildLent, BuildLeft, build_c
 use Rattle.imgproc.specs.Tiles.{FillReady, Fills}
 use Rattle.imgproc.specs.Refusals.{error_number, Conditions, first, ◌then◌, view_conditions}
 use Rattle.imgproc.specs.RefusalLaws.{then_accepted, then_refused, both_accepted, view_refused, view_accepted}
-use Rattle.imgproc.proofs.grid.Ways.{room_of, sides-accepted, room-accepted}
+use Rattle.imgproc.proofs.grid.Ways.{room_of, sides_accepted, room_accepted}
 
 module _ (lent : BuildLent) where
   -- the same with the geometry u
@@ -46,8 +46,8 @@ module _ (lent : BuildLent) where
 
   module _ {l : Layout} (is : l ≡ layout_of (length lent.src) lent.source) where
     -- the layout refuses
-    pub layout-refused : {e r : LumaError} → l ≡ Invalid e → r ≡ refusal_of l → Builds lent (refused (error_number (Image r))) untouched
-    layout-refused {r = r} i q =
+    pub layout_refused : {e r : LumaError} → l ≡ Invalid e → r ≡ refusal_of l → Builds lent (refused (error_number (Image r))) untouched
+    layout_refused {r = r} i q =
         refused_build (Image r)
         (then_refused (view_conditions (length lent.src) lent.source) (rest lent.source)
         (rw (q ∙ ap refusal_of i) (view_refused (length lent.src) lent.source (sym is ∙ i))))
@@ -67,8 +67,8 @@ module _ (lent : BuildLent) where
           ∙ ap (λ (u : Geometry). first (rest u)) kept_is.1
 
       module _ {k : Check} (c : k ≡ first (rest v)) where
-        pub rest-refused : {e : ImgProcError} → k ≡ Refused e → Builds lent (refused (error_number e)) untouched
-        rest-refused {e} p = refused_build e (check_is ∙ sym c ∙ p)
+        pub rest_refused : {e : ImgProcError} → k ≡ Refused e → Builds lent (refused (error_number e)) untouched
+        rest_refused {e} p = refused_build e (check_is ∙ sym c ∙ p)
 
         module _ (a : k ≡ Accepted) where
           both : (first (grid_settings lent.settings) ≡ Accepted) × (first (room_of (lent_as v)) ≡ Accepted)
@@ -76,7 +76,7 @@ module _ (lent : BuildLent) where
 
           pub ready : FillReady (lent_as v)
           ready =
-              let d = sides-accepted lent.settings both.0 in
+              let d = sides_accepted lent.settings both.0 in
               record {
                 layout = kept;
                 sized = record {
@@ -87,7 +87,7 @@ module _ (lent : BuildLent) where
                   tile_width = d.0;
                   tile_height = d.1;
                 };
-                rooms = room-accepted (lent_as v) both.1;
+                rooms = room_accepted (lent_as v) both.1;
               }
 
           pub built : {x y : ℕ} {left : BuildLeft}

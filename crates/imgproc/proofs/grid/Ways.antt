@@ -16,10 +16,10 @@ use Rattle.imgproc.specs.Refusals.{Conditions, first, refused_if}
 use Rattle.imgproc.specs.RefusalLaws.{both_accepted, not_refused}
 
 -- tile sides above 0
-pub sides-accepted :
+pub sides_accepted :
     (g : TileThresholdConfig) → first (grid_settings g) ≡ Accepted → (0 < g.tile_width) × (0 < g.tile_height)
 unfolding grid_settings
-sides-accepted g e =
+sides_accepted g e =
     let w = eqb g.tile_width 0 in
     let h = eqb g.tile_height 0 in
     let m = not (usable_method g.method) in
@@ -31,8 +31,8 @@ abbrev pub room_of : BuildLent → Conditions
 room_of lent = grid_room (tiles_lent lent) (length lent.workspace) (length lent.thresholds) (length lent.skips)
 
 -- buffers that hold its tiles
-pub room-accepted : (lent : BuildLent) → first (room_of lent) ≡ Accepted → Rooms lent
-room-accepted lent e =
+pub room_accepted : (lent : BuildLent) → first (room_of lent) ≡ Accepted → Rooms lent
+room_accepted lent e =
     let t = tiles_lent lent in
     let short = ltb (length lent.workspace) (5 * t) in
     let few = ltb (length lent.thresholds) t in

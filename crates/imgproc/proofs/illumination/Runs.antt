@@ -22,18 +22,18 @@ use Rattle.imgproc.specs.Refusals.{first, division_settings}
 use Rattle.imgproc.specs.Calls.{Loan, Works}
 use Rattle.imgproc.specs.Division.{quotient, divided_by, divided, division, PlaneDivided, FlattenReady, Flattened, DivideReady}
 use Rattle.image.specs.LayoutLaws.{area_small}
-use Rattle.image.specs.CopyLaws.{packs-plane}
+use Rattle.image.specs.CopyLaws.{packs_plane}
 use Rattle.imgproc.proofs.Serving.{unpacked_works}
-use Rattle.imgproc.proofs.morphology.Runs.{first_to_second, twice-ready}
+use Rattle.imgproc.proofs.morphology.Runs.{first_to_second, twice_ready}
 
 -- ---- packed, closed, divided
 module _ {tally : Tally} {src : List ℕ} {g : Geometry} {d : BackgroundDivideConfig} {ws : List ℕ} (ready : FlattenReady tally src g d ws)
     {r : Answer Bare} {first : List ℕ} (pack : Packs src g 0 ws r first) where
   plane : (length first ≡ length ws) × (part 0 (g.width * g.height) first ≡ picture src g)
-  plane = packs-plane ready.from (omega (arith, ready.fits)) pack
+  plane = packs_plane ready.from (omega (arith, ready.fits)) pack
 
   pub close_ready : TwiceReady tally first (first_to_second g.width g.height) d.structuring_element
-  close_ready = twice-ready (record {
+  close_ready = twice_ready (record {
     fits = omega (arith, plane.0, ready.fits);
     kernel = ready.kernel;
     wide = ready.from.wide;
@@ -107,10 +107,10 @@ module _ (d : BackgroundDivideConfig) where
   unfolding first division_settings
   element_even l x = simp (le-ltb d.structuring_element 3 l, eq-eqb _ _ x)
 
-  pub no-floor : 3 ≤ d.structuring_element → (d.structuring_element % 2 ≡ 0 → ⊥) → d.denominator_floor ≡ 0
+  pub no_floor : 3 ≤ d.structuring_element → (d.structuring_element % 2 ≡ 0 → ⊥) → d.denominator_floor ≡ 0
       → Refused InvalidConfiguration ≡ first (division_settings d)
   unfolding first division_settings
-  no-floor l o x = simp (le-ltb d.structuring_element 3 l, ne_eqb (d.structuring_element % 2) 0 o, eq-eqb d.denominator_floor 0 x)
+  no_floor l o x = simp (le-ltb d.structuring_element 3 l, ne_eqb (d.structuring_element % 2) 0 o, eq-eqb d.denominator_floor 0 x)
 
   pub settings_good : 3 ≤ d.structuring_element → (d.structuring_element % 2 ≡ 0 → ⊥) → (d.denominator_floor ≡ 0 → ⊥)
       → Accepted ≡ first (division_settings d)

@@ -12,7 +12,7 @@ use Rattle.imgproc.specs.Fold.{bit}
 use Rattle.imgproc.specs.Reach.{walk}
 use Rattle.imgproc.specs.Walks.{cases, walk_more, walk_le}
 use Rattle.imgproc.specs.declared.morphology.tally.Tally.{Tally}
-use Rattle.imgproc.specs.Tallies.{Raised, HasRoom, raised_none, raised-twice, room_left}
+use Rattle.imgproc.specs.Tallies.{Raised, HasRoom, raised_none, raised_twice, room_left}
 use Rattle.imgproc.specs.Sweeps.{lane, Apart, Off, Outside, Rowed, Passed}
 
 -- ---- places
@@ -29,8 +29,8 @@ pub apart_swap : {a m b n : ℕ} → Apart a m b n → Apart b n a m
 apart_swap p = record { clear = ⊎_elim (λ q. inr q) (λ q. inl q) p.clear }
 
 -- line y ends before line z starts
-pub line-order : (w y z : ℕ) → y < z → y * w + w ≤ z * w
-line-order w y z l = let h : (y + 1) * w ≤ z * w = mul-le-mul_right w (omega arith) in omega arith
+pub line_order : (w y z : ℕ) → y < z → y * w + w ≤ z * w
+line_order w y z l = let h : (y + 1) * w ≤ z * w = mul-le-mul_right w (omega arith) in omega arith
 
 pub line_before : (w y : ℕ) → 0 < y → y * w ≡ (y - 1) * w + w
 line_before w y l = (ap (λ (n : ℕ). n * w) (omega arith) ∙ add-mul (y - 1) 1 w) ∙ omega arith
@@ -44,8 +44,8 @@ pub outside_at : {at n : ℕ} {d d' : List ℕ} (j : ℕ) → Outside at n d d' 
 outside_at j o p = ⊎_elim (o.before j) (o.after j) p.off
 
 -- a stretch of a stretch that may change, after it
-pub outside-more : {at n : ℕ} {d d' d'' : List ℕ} (a m : ℕ) → Outside at n d d' → Outside a m d' d'' → at ≤ a → a + m ≤ at + n → Outside at n d d''
-outside-more a m p q l h = record {
+pub outside_more : {at n : ℕ} {d d' d'' : List ℕ} (a m : ℕ) → Outside at n d d' → Outside a m d' d'' → at ≤ a → a + m ≤ at + n → Outside at n d d''
+outside_more a m p q l h = record {
   long = q.long ∙ p.long;
   before = λ j x. q.before j (omega arith) ∙ p.before j x;
   after = λ j x. q.after j (omega arith) ∙ p.after j x;
@@ -74,8 +74,8 @@ module _ (at : ℕ) (g : ℕ → ℕ) (d : List ℕ) where
   pub row_apart : {from n w : ℕ} (x j : ℕ) (a : List ℕ) → Rowed at x g d a → Apart from n at w → x ≤ w → from ≤ j → j < from + n → get_or a j 0 ≡ get_or d j 0
   row_apart x j a h p l m q = ⊎_elim (λ s. h.rest.before j (omega arith)) (λ s. h.rest.after j (omega arith)) p.clear
 
-pub row-all : {at x w : ℕ} {g : ℕ → ℕ} {d a : List ℕ} → Rowed at x g d a → x ≤ w → w ≤ x → Rowed at w g d a
-row-all {at} {x} {w} {g} {d} {a} h l m = subst (λ (n : ℕ). Rowed at n g d a) (omega arith) h
+pub row_all : {at x w : ℕ} {g : ℕ → ℕ} {d a : List ℕ} → Rowed at x g d a → x ≤ w → w ≤ x → Rowed at w g d a
+row_all {at} {x} {w} {g} {d} {a} h l m = subst (λ (n : ℕ). Rowed at n g d a) (omega arith) h
 
 -- ---- the lines of a plane that are done: P holds at each of their samples, and nothing outside the plane has changed
 pub record Done (P : ℕ → ℕ → ℕ → Type 0) (D : ℕ → Type 0) (to w h : ℕ) (d d' : List ℕ) : Type 0 where
@@ -90,9 +90,9 @@ module _ {P : ℕ → ℕ → ℕ → Type 0} {D D' : ℕ → Type 0} {to w h : 
     each = λ x i l m.
         cases i y
         (λ e. rw e (subst (λ (v : ℕ). P x y v) (sym (q.each x l) ∙ ap (λ (j : ℕ). get_or a' j 0) (omega arith)) (here x l)))
-        (λ e. rw (q.rest.before (to + (i * w + x)) (omega (arith, line-order w i y e))) (r.each x i l (rest i m (λ z. omega arith))))
-        (λ e. rw (q.rest.after (to + (i * w + x)) (omega (arith, line-order w y i e))) (r.each x i l (rest i m (λ z. omega arith))));
-    rest = outside-more (to + y * w) w r.rest q.rest (omega arith) (omega (arith, line-order w y h b));
+        (λ e. rw (q.rest.before (to + (i * w + x)) (omega (arith, line_order w i y e))) (r.each x i l (rest i m (λ z. omega arith))))
+        (λ e. rw (q.rest.after (to + (i * w + x)) (omega (arith, line_order w y i e))) (r.each x i l (rest i m (λ z. omega arith))));
+    rest = outside_more (to + y * w) w r.rest q.rest (omega arith) (omega (arith, line_order w y h b));
   }
 
 pub done_none : (P : ℕ → ℕ → ℕ → Type 0) {D : ℕ → Type 0} (to w h : ℕ) (d : List ℕ) → ((i : ℕ) → D i → ⊥) → Done P D to w h d d
@@ -110,36 +110,36 @@ module _ {P : ℕ → ℕ → ℕ → Type 0} {test : ℕ → Bool} {to w h : �
   unfolding walk
   down_none = record { inside = omega arith; here = omega arith; lines = done_none P to w h d (λ i m. not-suc-le-zero m); counted = raised_none (omega arith) }
 
-  pub down-more : {y at : ℕ} {c c' : Tally} (g : ℕ → ℕ) {a a' : List ℕ} → Downward P test to w h y at d a tally c → y < h → Rowed (to + at) w g a a'
+  pub down_more : {y at : ℕ} {c c' : Tally} (g : ℕ → ℕ) {a a' : List ℕ} → Downward P test to w h y at d a tally c → y < h → Rowed (to + at) w g a a'
       → ((x : ℕ) → x < w → P x y (g x)) → Raised c (bit (test y) * w) c' → Downward P test to w h (y + 1) (at + w) d a' tally c'
-  down-more {y} g {a} {a'} s l r each e =
+  down_more {y} g {a} {a'} s l r each e =
       let r' : Rowed (to + y * w) w g a a' = rw s.here at r in
       let more : walk test (y + 1) * w ≡ walk test y * w + bit (test y) * w = ap (λ (n : ℕ). n * w) (walk_more test y) ∙ omega arith in
       record {
         inside = omega arith;
         here = omega (arith, s.here);
         lines = done_more y g l s.lines r' each (λ i m ne. omega arith);
-        counted = raised-twice s.counted e more;
+        counted = raised_twice s.counted e more;
       }
 
   -- the tally so far has room for a line more
-  pub down-room : {y at : ℕ} {c : Tally} {a : List ℕ} → HasRoom tally (w * h) → Downward P test to w h y at d a tally c → y < h → HasRoom c w
-  down-room {y} room s l =
+  pub down_room : {y at : ℕ} {c : Tally} {a : List ℕ} → HasRoom tally (w * h) → Downward P test to w h y at d a tally c → y < h → HasRoom c w
+  down_room {y} room s l =
       let b : walk test y * w ≤ y * w = mul-le-mul_right w (walk_le test y) in
-      room_left room s.counted (omega (arith, line-order w y h l))
+      room_left room s.counted (omega (arith, line_order w y h l))
 
   -- the line at `at` is within the plane
   pub down_fits : {y at : ℕ} {c : Tally} {a : List ℕ} → Downward P test to w h y at d a tally c → y < h → at + w ≤ w * h
-  down_fits {y} s l = omega (arith, line-order w y h l, s.here)
+  down_fits {y} s l = omega (arith, line_order w y h l, s.here)
 
-  pub down-all : {y at : ℕ} {c : Tally} {a : List ℕ} → Downward P test to w h y at d a tally c → h ≤ y → Passed P test tally d to w h c a
-  down-all {y} s l =
+  pub down_all : {y at : ℕ} {c : Tally} {a : List ℕ} → Downward P test to w h y at d a tally c → h ≤ y → Passed P test tally d to w h c a
+  down_all {y} s l =
       let e : y ≡ h = omega (arith, s.inside) in
       record { each = λ x i m n. s.lines.each x i m (omega arith); rest = s.lines.rest; counted = rw e at s.counted }
 
 -- the walk to y, by that to the line above
-walk-above : (test : ℕ → Bool) (y : ℕ) → 0 < y → walk test y ≡ walk test (y - 1) + bit (test (y - 1))
-walk-above test y l = ap (walk test) (omega arith) ∙ walk_more test (y - 1)
+walk_above : (test : ℕ → Bool) (y : ℕ) → 0 < y → walk test y ≡ walk test (y - 1) + bit (test (y - 1))
+walk_above test y l = ap (walk test) (omega arith) ∙ walk_more test (y - 1)
 
 -- ---- a pass that has come up to line y, and has met so many lines on its way
 pub record Upward (P : ℕ → ℕ → ℕ → Type 0) (test : ℕ → Bool) (to w h y at : ℕ) (d d' : List ℕ) (tally raised : Tally) : Type 0 where
@@ -171,14 +171,14 @@ module _ {P : ℕ → ℕ → ℕ → Type 0} {test : ℕ → Bool} {to w h : �
         here = up;
         lines = done_more (y - 1) g (omega (arith, s.inside)) s.lines r' each (λ i m ne. omega arith);
         met = s.met + bit (test (y - 1));
-        ahead = omega (arith, s.ahead, walk-above test y l);
-        counted = raised-twice s.counted e (add-mul s.met (bit (test (y - 1))) w);
+        ahead = omega (arith, s.ahead, walk_above test y l);
+        counted = raised_twice s.counted e (add-mul s.met (bit (test (y - 1))) w);
       }
 
   pub up_room : {y at : ℕ} {c : Tally} {a : List ℕ} → HasRoom tally (w * h) → Upward P test to w h y at d a tally c → 0 < y → test (y - 1) ≡ true → HasRoom c w
   up_room {y} room s l t =
       let one : bit (test (y - 1)) ≡ 1 = rw t refl in
-      let b : (s.met + 1) * w ≤ h * w = mul-le-mul_right w (omega (arith, s.ahead, walk-above test y l, walk_le test h)) in
+      let b : (s.met + 1) * w ≤ h * w = mul-le-mul_right w (omega (arith, s.ahead, walk_above test y l, walk_le test h)) in
       room_left room s.counted (omega arith)
 
   -- the line at y - 1 is within the plane
@@ -187,9 +187,9 @@ module _ {P : ℕ → ℕ → ℕ → Type 0} {test : ℕ → Bool} {to w h : �
       let b : y * w ≤ h * w = mul-le-mul_right w s.inside in
       omega (arith, line_before w y l, s.here)
 
-  pub up-all : {y at : ℕ} {c : Tally} {a : List ℕ} → Upward P test to w h y at d a tally c → y ≤ 0 → Passed P test tally d to w h c a
+  pub up_all : {y at : ℕ} {c : Tally} {a : List ℕ} → Upward P test to w h y at d a tally c → y ≤ 0 → Passed P test tally d to w h c a
   unfolding walk
-  up-all {y} s l =
+  up_all {y} s l =
       let e : y ≡ 0 = omega arith in
       let none : walk test y ≡ 0 = ap (walk test) e in
       let all : s.met ≡ walk test h = omega (arith, none, s.ahead) in

@@ -11,7 +11,7 @@ use Rattle.image.specs.Plane.{part}
 use Rattle.image.specs.PlaneLaws.{in_plane, length_part, get_d_part}
 use Rattle.imgproc.specs.declared.morphology.tally.Tally.{Tally}
 use Rattle.imgproc.specs.declared.morphology.sweeps.Planes.{Planes}
-use Rattle.imgproc.specs.Tallies.{Raised, HasRoom, raised_none, raised-twice, room-part, room_left}
+use Rattle.imgproc.specs.Tallies.{Raised, HasRoom, raised_none, raised_twice, room_part, room_left}
 use Rattle.imgproc.specs.Extremes.{Extreme, Between, Inside}
 use Rattle.imgproc.specs.Reach.{reach_box, reach_from, reach_to, line_walks}
 use Rattle.imgproc.specs.Walks.{cases, lines_walks_le}
@@ -38,11 +38,11 @@ use Rattle.imgproc.specs.Sweeps.{
   TwiceMorphed,
 }
 use Rattle.imgproc.proofs.morphology.sweeps.Blocks.{order, seen}
-use Rattle.imgproc.proofs.morphology.Lanes.{off, apart_within, outside_at, line-order}
+use Rattle.imgproc.proofs.morphology.Lanes.{off, apart_within, outside_at, line_order}
 
 -- a place off a stretch is off each stretch within it
-pub off-within : {at n j : ℕ} (a m : ℕ) → Off at n j → at ≤ a → a + m ≤ at + n → Off a m j
-off-within a m p l h = record { off = ⊎_elim (λ s. inl (omega arith)) (λ s. inr (omega arith)) p.off }
+pub off_within : {at n j : ℕ} (a m : ℕ) → Off at n j → at ≤ a → a + m ≤ at + n → Off a m j
+off_within a m p l h = record { off = ⊎_elim (λ s. inl (omega arith)) (λ s. inr (omega arith)) p.off }
 
 -- ---- a strip: transposed, swept as lanes, transposed back
 -- between, the sweep works on these planes
@@ -63,9 +63,9 @@ strip_swept {k = k} {p = p} pos there swept back =
         same = λ j u q.
             outside_at j back.rest u
             ∙ swept.kept.same j
-            (off-within spare (h * w) q (omega arith) (omega arith))
-            (off-within (spare + w * h) (2 * (h * w)) q (omega arith) (omega arith))
-            ∙ outside_at j there.rest (off-within spare (h * w) q (omega arith) (omega arith));
+            (off_within spare (h * w) q (omega arith) (omega arith))
+            (off_within (spare + w * h) (2 * (h * w)) q (omega arith) (omega arith))
+            ∙ outside_at j there.rest (off_within spare (h * w) q (omega arith) (omega arith));
       };
     }
 
@@ -116,13 +116,13 @@ module _ {tally : Tally} {d : List ℕ} {p : Planes} {k : ℕ} {least : Bool} (r
     module _ {r : Tally} {b : List ℕ} (strip : RowsSwept c a (strip_of p y n) k least r b) where
       -- outside the strip and the scratch nothing has changed
       still : (j : ℕ) → Off (p.to + y * p.width) (p.width * n) j → Off p.spare (3 * area p) j → get_or b j 0 ≡ get_or a j 0
-      still j u q = let z = size in strip.kept.same j u (off-within p.spare (3 * (p.width * n)) q (omega arith) (omega arith))
+      still j u q = let z = size in strip.kept.same j u (off_within p.spare (3 * (p.width * n)) q (omega arith) (omega arith))
 
       above : (x i : ℕ) → x < p.width → i < y
           → Reached (Before least) k p.width (λ j. lane d p.from p.width j i) x (lane b p.to p.width x i)
       above x i X I =
           let z = size in
-          let l = line-order p.width i y I in
+          let l = line_order p.width i y I in
           let j = p.to + (i * p.width + x) in
           rw (still j (record { off = inl (omega arith) }) (off j ready.target_apart (omega arith) (omega arith))) (s.each x i X I)
 
@@ -132,7 +132,7 @@ module _ {tally : Tally} {d : List ℕ} {p : Planes} {k : ℕ} {least : Bool} (r
           let m = i - y in
           let w = p.width in
           let e : i * w ≡ y * w + m * w = ap (λ (z : ℕ). z * w) (omega arith) ∙ add-mul y m w in
-          let l = line-order w i p.height (omega arith) in
+          let l = line_order w i p.height (omega arith) in
           let place : lane b (p.to + y * w) w x m ≡ lane b p.to w x i = ap (λ (z : ℕ). get_or b z 0) (omega arith) in
           subst (λ (v : ℕ). Reached (Before least) k w (λ j. lane d p.from w j i) x v) place
           (seen
@@ -153,15 +153,15 @@ module _ {tally : Tally} {d : List ℕ} {p : Planes} {k : ℕ} {least : Bool} (r
                 still j
                 (⊎_elim
                 (λ e. record { off = inr (omega arith) })
-                (λ u. off-within (p.to + y * w) (w * n) (off j u (omega arith) m) (omega arith) (omega arith))
+                (λ u. off_within (p.to + y * w) (w * n) (off j u (omega arith) m) (omega arith) (omega arith))
                 ready.planes)
                 (off j ready.source_apart (omega arith) (omega arith))
                 ∙ s.ahead j (omega arith) m;
             kept = record {
               long = strip.kept.long ∙ s.kept.long;
-              same = λ j u q. still j (off-within (p.to + y * w) (w * n) u (omega arith) (omega arith)) q ∙ s.kept.same j u q;
+              same = λ j u q. still j (off_within (p.to + y * w) (w * n) u (omega arith) (omega arith)) q ∙ s.kept.same j u q;
             };
-            counted = raised-twice s.counted strip.counted (add-mul y n (line_walks k w));
+            counted = raised_twice s.counted strip.counted (add-mul y n (line_walks k w));
           }
 
   pub sweeping_all : {y : ℕ} {c : Tally} {a : List ℕ} → Sweeping tally d p k least y c a → p.height ≤ y → RowsSwept tally d p k least c a
@@ -235,7 +235,7 @@ module _ {least : Bool} {kw kh : ℕ} {p : Planes} {t a : Tally} {d e : List ℕ
               let Y' = reach_in kh h y ready.columns Y in
               sym (get_d_part p.from (area p) d asked.source (q.1 * w + q.0) (in_plane w h q.0 q.1 (omega arith) (omega arith))))
               (both x y X Y)));
-          counted = raised-twice across.counted down.counted refl;
+          counted = raised_twice across.counted down.counted refl;
           kept = record {
             long = down.kept.long ∙ across.kept.long;
             same = λ j u v. down.kept.same j u v ∙ across.kept.same j u v;
@@ -251,16 +251,16 @@ module _ {one : Bool} {kw kh : ℕ} {p : Planes} {t a : Tally} {d e : List ℕ} 
       let asked = ready.once in
       let room = room_left {l = 6 * area p} ready.room once.counted (omega arith) in
       record {
-        rows = sweep_again asked.rows once.kept asked.rows.kernel (room-part room (omega arith));
+        rows = sweep_again asked.rows once.kept asked.rows.kernel (room_part room (omega arith));
         columns = asked.columns;
         wide = asked.wide;
         room = room;
       }
 
-  pub pair-morphed : {two : Bool} {r : Tally} {g : List ℕ} → Morphed a e (planes_in_place p) kw kh two r g → PairMorphed t d p kw kh one two r g
-  pair-morphed {two} again = record {
+  pub pair_morphed : {two : Bool} {r : Tally} {g : List ℕ} → Morphed a e (planes_in_place p) kw kh two r g → PairMorphed t d p kw kh one two r g
+  pair_morphed {two} again = record {
     leaves = again.leaves ∙ ap (swept_rect (extreme two) kw kh p.width p.height) once.leaves;
-    counted = raised-twice once.counted again.counted (omega arith);
+    counted = raised_twice once.counted again.counted (omega arith);
     kept = record {
       long = again.kept.long ∙ once.kept.long;
       same = λ j u v. again.kept.same j u v ∙ once.kept.same j u v;
@@ -268,9 +268,9 @@ module _ {one : Bool} {kw kh : ℕ} {p : Planes} {t a : Tally} {d e : List ℕ} 
   }
 
 -- ---- an opening or a closing: two of them with the kernel k
-pub pair-ready : {t : Tally} {d : List ℕ} {p : Planes} {k : ℕ} → TwiceReady t d p k → PairReady t d p k k
-pair-ready q = record { once = record { rows = q.rows; columns = q.rows.kernel; wide = q.wide; room = room-part q.room (omega arith) }; room = q.room }
+pub pair_ready : {t : Tally} {d : List ℕ} {p : Planes} {k : ℕ} → TwiceReady t d p k → PairReady t d p k k
+pair_ready q = record { once = record { rows = q.rows; columns = q.rows.kernel; wide = q.wide; room = room_part q.room (omega arith) }; room = q.room }
 
-pub twice-morphed : (one two : Bool) {t r : Tally} {d g : List ℕ} {p : Planes} {k : ℕ} → PairMorphed t d p k k one two r g
+pub twice_morphed : (one two : Bool) {t r : Tally} {d g : List ℕ} {p : Planes} {k : ℕ} → PairMorphed t d p k k one two r g
     → TwiceMorphed (λ k w h p. swept (extreme two) k w h (swept (extreme one) k w h p)) t d p k r g
-twice-morphed one two q = record { leaves = q.leaves; counted = q.counted; kept = q.kept }
+twice_morphed one two q = record { leaves = q.leaves; counted = q.counted; kept = q.kept }

@@ -11,13 +11,13 @@ use Rattle.image.specs.Plane.{picture, part}
 use Rattle.image.specs.Copy.{Packs, Unpacks}
 use Rattle.imgproc.specs.declared.morphology.tally.Tally.{Tally}
 use Rattle.imgproc.specs.declared.morphology.sweeps.Planes.{Planes}
-use Rattle.imgproc.specs.Tallies.{room-part}
+use Rattle.imgproc.specs.Tallies.{room_part}
 use Rattle.imgproc.specs.declared.morphology.Operation.{Operation}
 use Rattle.imgproc.specs.Sweeps.{MorphReady, TwiceReady}
 use Rattle.imgproc.specs.MorphologyCalls.{operated, morphology, OperateReady, CountReady, Counts, RunReady}
 use Rattle.imgproc.specs.Calls.{Loan, Works}
 use Rattle.image.specs.LayoutLaws.{area_small}
-use Rattle.image.specs.CopyLaws.{packs-plane}
+use Rattle.image.specs.CopyLaws.{packs_plane}
 use Rattle.imgproc.proofs.Serving.{unpacked_works}
 
 -- ---- an operation reads the first plane, writes the second, and has its scratch after both
@@ -34,15 +34,15 @@ once_ready p = record {
     target_apart = record { clear = inl (omega arith) };
     planes = inr (record { clear = inl (omega arith) });
     kernel = p.kernel;
-    room = room-part p.room (omega arith);
+    room = room_part p.room (omega arith);
   };
   columns = p.kernel;
   wide = p.wide;
-  room = room-part p.room (omega arith);
+  room = room_part p.room (omega arith);
 }
 
-pub twice-ready : {t : Tally} {d : List ℕ} {k w h : ℕ} → OperateReady t d k w h → TwiceReady t d (first_to_second w h) k
-twice-ready p = record { rows = (once_ready p).rows; wide = p.wide; room = p.room }
+pub twice_ready : {t : Tally} {d : List ℕ} {k w h : ℕ} → OperateReady t d k w h → TwiceReady t d (first_to_second w h) k
+twice_ready p = record { rows = (once_ready p).rows; wide = p.wide; room = p.room }
 
 -- ---- packed, operated on, painted
 module _ {lent : Loan ℕ} (ready : RunReady lent) {r : Answer Bare} {first : List ℕ}
@@ -54,7 +54,7 @@ module _ {lent : Loan ℕ} (ready : RunReady lent) {r : Answer Bare} {first : Li
   h = lent.source.height
 
   plane : (length first ≡ length lent.workspace) × (part 0 (w * h) first ≡ picture lent.src lent.source)
-  plane = packs-plane ready.pair.from (omega (arith, ready.fits)) pack
+  plane = packs_plane ready.pair.from (omega (arith, ready.fits)) pack
 
   pub run_count_ready : CountReady first lent.settings w h
   run_count_ready =

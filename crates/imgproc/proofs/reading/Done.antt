@@ -40,8 +40,8 @@ abbrev pub packed_as : Geometry → Geometry
 packed_as g = record { width = g.width; height = g.height; stride = g.width }
 
 -- a packed picture lies in its w × h bytes
-packed-kept : {len : ℕ} {g : Geometry} → Kept len g → Kept (g.width * g.height) (packed_as g)
-packed-kept {len} {g} k =
+packed_kept : {len : ℕ} {g : Geometry} → Kept len g → Kept (g.width * g.height) (packed_as g)
+packed_kept {len} {g} k =
     let e : g.height - 1 + 1 ≡ g.height = omega (arith, k.high) in
     let m : g.width * g.height ≡ g.width * (g.height - 1) + g.width =
     ap (λ (n : ℕ). g.width * n) (sym e)
@@ -88,7 +88,7 @@ module _ {lent : ReadingLent} (ready : ReadReady lent) {tally : Tally} (fresh : 
   module _ {raised : Tally} {bytes₁ : List ℕ} (o : Opened tally lent.src g s lent.bytes raised bytes₁) where
     pub mark_stage : MarkReady (packed_as g) s marks_place bytes₁ lent.u64s
     mark_stage = record {
-      layout = packed-kept ready.pair.from;
+      layout = packed_kept ready.pair.from;
       tight = refl;
       tile_width = ready.settings.tile_width;
       tile_height = ready.settings.tile_height;
@@ -101,12 +101,12 @@ module _ {lent : ReadingLent} (ready : ReadReady lent) {tally : Tally} (fresh : 
       pub judge_stage : JudgeRoom (packed_as g) s marks_place bytes₂ u64s₂
       judge_stage = record {
         marks = record {
-          layout = packed-kept ready.pair.from;
+          layout = packed_kept ready.pair.from;
           tight = refl;
           tile_width = ready.settings.tile_width;
           tile_height = ready.settings.tile_height;
           behind = omega arith;
-          bytes_fit = omega (arith, m.bytes-long, o.long, ready.bytes_fit);
+          bytes_fit = omega (arith, m.bytes_long, o.long, ready.bytes_fit);
           u64s_fit = omega (arith, m.u64s_long, ready.u64s_fit);
         };
         skips = m.skips ∙ ap (skips s.grid g.width g.height) (sym m.opened);
@@ -148,6 +148,6 @@ module _ {lent : ReadingLent} (ready : ReadReady lent) {tally : Tally} (fresh : 
             ap₂ (λ (a b : ℕ). numbers a b j.skipped raised.comparisons) (p.dark ∙ count_is is_dark) (p.light ∙ count_is is_light)
             ∙ ap₂ (numbers _ _) (p.skipped ∙ count_is is_skipped) comparisons_are.at;
         leaves = p.leaves ∙ ap (painted_on lent.dst lent.target) marked_is;
-        bytes-long = m.bytes-long ∙ o.long;
+        bytes_long = m.bytes_long ∙ o.long;
         u64s_long = l ∙ m.u64s_long;
       }

@@ -10,12 +10,12 @@ use lib.Seq.{length-take-le}
 use Rattle.image.specs.declared.Geometry.{Geometry}
 use Rattle.image.specs.Layout.{Kept}
 use Rattle.image.specs.Plane.{part, overwritten}
-use Rattle.image.specs.PlaneLaws.{length-tabulate, length-overwritten, part-before, part-overwritten}
+use Rattle.image.specs.PlaneLaws.{length-tabulate, length-overwritten, part_before, part_overwritten}
 use Rattle.image.specs.Views.{picture_again}
 use Rattle.imgproc.specs.declared.reading.config.ReadingConfig.{ReadingConfig}
 use Rattle.imgproc.specs.declared.morphology.tally.Tally.{Tally}
 use Rattle.imgproc.specs.declared.morphology.sweeps.Planes.{Planes}
-use Rattle.imgproc.specs.Tallies.{raised-twice, room-part, room_left}
+use Rattle.imgproc.specs.Tallies.{raised_twice, room_part, room_left}
 use Rattle.imgproc.specs.declared.grid.bytes.TileByte.TheVariants.{Skip}
 use Rattle.imgproc.specs.Fold.{bit}
 use Rattle.imgproc.specs.Walks.{lines_walks_le}
@@ -37,7 +37,7 @@ module _ {tally : Tally} {src : List ℕ} {g : Geometry} {s : ReadingConfig} {ws
     kernel = ready.element;
     floor = ready.floor;
     fits = ready.fits;
-    room = room-part ready.room (omega arith);
+    room = room_part ready.room (omega arith);
   }
 
   module _ {raised : Tally} {first : List ℕ} (flat : Flattened tally src g s.division ws raised first) where
@@ -69,7 +69,7 @@ module _ {tally : Tally} {src : List ℕ} {g : Geometry} {s : ReadingConfig} {ws
         → Opened tally src g s ws r second
     opened_is o = record {
       leaves = o.leaves ∙ ap (opened s.opening_kernel g.width g.height) flat.leaves;
-      counted = raised-twice flat.counted o.counted refl;
+      counted = raised_twice flat.counted o.counted refl;
       long = o.kept.long ∙ flat.long;
     }
 
@@ -103,9 +103,9 @@ module _ {g : Geometry} {s : ReadingConfig} {at : ℕ} {bytes u64s : List ℕ} (
     new : List ℕ
     new = skips s.grid g.width g.height (part 0 (g.width * g.height) bytes)
 
-    new-long : length new ≡ tiles_x_of s.grid g.width * tiles_y_of s.grid g.height
+    new_long : length new ≡ tiles_x_of s.grid g.width * tiles_y_of s.grid g.height
     unfolding new skips
-    new-long =
+    new_long =
         let across = tiles_x_of s.grid g.width in
         length-tabulate
         (λ i. bit (skip_of s.grid g.width g.height (part 0 (g.width * g.height) bytes) (i % across) (i / across)))
@@ -125,12 +125,12 @@ module _ {g : Geometry} {s : ReadingConfig} {at : ℕ} {bytes u64s : List ℕ} (
     marked {bytes'} is =
         let m = g.width * g.height in
         let e : bytes' ≡ overwritten at new bytes = is ∙ ap (λ (p : List ℕ). overwritten at p bytes) is_new in
-        let fits : at + length new ≤ length bytes = omega (arith, new-long, ready.bytes_fit) in
+        let fits : at + length new ≤ length bytes = omega (arith, new_long, ready.bytes_fit) in
         let long = length-overwritten at new bytes fits in
         record {
-          opened = ap (part 0 m) e ∙ part-before at new bytes fits 0 m (omega (arith, ready.behind));
-          skips = ap₂ (λ (c : ℕ) (d : List ℕ). part at c d) (sym new-long) e ∙ part-overwritten at new bytes fits;
-          bytes-long = ap length e ∙ long;
+          opened = ap (part 0 m) e ∙ part_before at new bytes fits 0 m (omega (arith, ready.behind));
+          skips = ap₂ (λ (c : ℕ) (d : List ℕ). part at c d) (sym new_long) e ∙ part_overwritten at new bytes fits;
+          bytes_long = ap length e ∙ long;
           u64s_long = gathered.long;
         }
 

@@ -28,10 +28,10 @@ use Rattle.imgproc.specs.Reading.{
   Reads,
 }
 use Rattle.imgproc.specs.ReadingSteps.{Usable, ReadDone}
-use Rattle.imgproc.specs.RefusalLaws.{then_accepted, both_accepted, not_refused, kernel-says, division-says}
-use Rattle.imgproc.proofs.WaysOut.{Comes, Pair, source-same, target_same, past}
+use Rattle.imgproc.specs.RefusalLaws.{then_accepted, both_accepted, not_refused, kernel_says, division_says}
+use Rattle.imgproc.proofs.WaysOut.{Comes, Pair, source_same, target_same, past}
 use Rattle.imgproc.proofs.Answers.{in_range}
-use Rattle.imgproc.proofs.grid.Ways.{sides-accepted}
+use Rattle.imgproc.proofs.grid.Ways.{sides_accepted}
 
 -- what accepted settings say
 pub says : (s : ReadingConfig) → first (reading_settings s) ≡ Accepted → Usable s
@@ -42,9 +42,9 @@ says s p =
     let a = both_accepted (division_settings s.division) (kernel then last) p in
     let b = both_accepted kernel last a.1 in
     let c = both_accepted (grid_settings s.grid) (sauvola_settings s.sauvola) b.1 in
-    let d = division-says s.division a.0 in
-    let k = kernel-says s.opening_kernel (not_refused (bad_kernel s.opening_kernel) InvalidKernel b.0) in
-    let t = sides-accepted s.grid c.0 in
+    let d = division_says s.division a.0 in
+    let k = kernel_says s.opening_kernel (not_refused (bad_kernel s.opening_kernel) InvalidKernel b.0) in
+    let t = sides_accepted s.grid c.0 in
     record {
       element = omega (arith, d.0);
       floor = d.1;
@@ -56,9 +56,9 @@ says s p =
 
 -- ---- the workspaces
 module _ (g : Geometry) (s : ReadingConfig) (bytes u64s t : ℕ) (is : t ≡ tile_count s.grid g.width g.height) where
-  pub bytes-short : bytes < marks_at g.width g.height + 2 * t → Refused WorkspaceTooSmall ≡ first (reading_room g s bytes u64s)
+  pub bytes_short : bytes < marks_at g.width g.height + 2 * t → Refused WorkspaceTooSmall ≡ first (reading_room g s bytes u64s)
   unfolding first
-  bytes-short l = simp (lt-ltb bytes (reading_bytes s.grid g.width g.height) (rw is at l))
+  bytes_short l = simp (lt-ltb bytes (reading_bytes s.grid g.width g.height) (rw is at l))
 
   module _ (b : marks_at g.width g.height + 2 * t ≤ bytes) where
     pub u64s_short : u64s < 2 * ((g.width + 1) * (g.height + 1)) + 5 * t → Refused WorkspaceTooSmall ≡ first (reading_room g s bytes u64s)
@@ -69,9 +69,9 @@ module _ (g : Geometry) (s : ReadingConfig) (bytes u64s t : ℕ) (is : t ≡ til
           lt-ltb u64s (reading_u64s s.grid g.width g.height) (rw is at l),
         )
 
-    pub room-enough : 2 * ((g.width + 1) * (g.height + 1)) + 5 * t ≤ u64s → Accepted ≡ first (reading_room g s bytes u64s)
+    pub room_enough : 2 * ((g.width + 1) * (g.height + 1)) + 5 * t ≤ u64s → Accepted ≡ first (reading_room g s bytes u64s)
     unfolding first
-    room-enough l =
+    room_enough l =
         simp (
           le-ltb bytes (reading_bytes s.grid g.width g.height) (rw is at b),
           le-ltb u64s (reading_u64s s.grid g.width g.height) (rw is at l),
@@ -124,6 +124,6 @@ module _ {lent : ReadingLent} where
   done {g = g} {h = h} {r = r} {left = left} p settings room d =
       let checks = reading_room g lent.settings (length lent.bytes) (length lent.u64s) in
       let c = (past p {rest = rest lent} (then_accepted (reading_settings lent.settings) checks settings ∙ room)).is in
-      let same : opened_as lent g h ≡ lent = ap₂ (opened_as lent) (sym (source-same p)) (sym (target_same p)) in
+      let same : opened_as lent g h ≡ lent = ap₂ (opened_as lent) (sym (source_same p)) (sym (target_same p)) in
       let d' = subst (λ (l : ReadingLent). ReadDone l r left) same d in
-      record { answers = rw c (ap accepted d'.counted); leaves = rw c d'.leaves; bytes_left = rw c d'.bytes-long; u64s_left = rw c d'.u64s_long }
+      record { answers = rw c (ap accepted d'.counted); leaves = rw c d'.leaves; bytes_left = rw c d'.bytes_long; u64s_left = rw c d'.u64s_long }

@@ -75,16 +75,16 @@ module _ (M N r j : ℕ) (even : M ≡ 2 * N) (root : IsRoot M r) (lo : 2 ^ 53 �
   w : ℕ
   w = whole_root (M * (2 ^ j * 2 ^ j))
 
-  w-drop : w / 2 ^ j ≡ r
+  w_drop : w / 2 ^ j ≡ r
   unfolding w
-  w-drop = root_one M (w / 2 ^ j) r (root_drop M (2 ^ j) w (pow_pos j) (whole_root_is (M * (2 ^ j * 2 ^ j)))) root
+  w_drop = root_one M (w / 2 ^ j) r (root_drop M (2 ^ j) w (pow_pos j) (whole_root_is (M * (2 ^ j * 2 ^ j)))) root
 
   w_lo : 2 ^ (53 + j) ≤ w
-  w_lo = le_trans (le_of_eq (pow-add 2 53 j)) (le_trans (mul-le-mul_right (2 ^ j) lo) (subst (λ (x : ℕ). x * 2 ^ j ≤ w) w-drop (div-mul-le_self w (2 ^ j))))
+  w_lo = le_trans (le_of_eq (pow-add 2 53 j)) (le_trans (mul-le-mul_right (2 ^ j) lo) (subst (λ (x : ℕ). x * 2 ^ j ≤ w) w_drop (div-mul-le_self w (2 ^ j))))
 
   w_hi : w < 2 ^ suc (53 + j)
   w_hi =
-      let a : w < r * 2 ^ j + 2 ^ j = subst (λ (x : ℕ). w < x * 2 ^ j + 2 ^ j) w-drop (lt-div-mul-add {a = w} {b = 2 ^ j} (pow_pos j)) in
+      let a : w < r * 2 ^ j + 2 ^ j = subst (λ (x : ℕ). w < x * 2 ^ j + 2 ^ j) w_drop (lt-div-mul-add {a = w} {b = 2 ^ j} (pow_pos j)) in
       let b : (r + 1) * 2 ^ j ≤ 2 ^ 54 * 2 ^ j = mul-le-mul_right (2 ^ j) (omega arith) in
       let e : 2 ^ 54 * 2 ^ j ≡ 2 ^ (54 + j) = sym (pow-add 2 54 j) in
       let f : 2 ^ (54 + j) ≡ 2 ^ suc (53 + j) = ap (λ (x : ℕ). 2 ^ x) (omega arith) in
@@ -94,7 +94,7 @@ module _ (M N r j : ℕ) (even : M ≡ 2 * N) (root : IsRoot M r) (lo : 2 ^ 53 �
   k_is = omega (arith, size_is (53 + j) w w_lo w_hi)
 
   half : w / 2 ^ (j + 1) ≡ r / 2
-  half = sym (shr-shr w j 1) ∙ ap (λ (x : ℕ). x / 2) w-drop
+  half = sym (shr-shr w j 1) ∙ ap (λ (x : ℕ). x / 2) w_drop
 
   square : (b : ℕ) → 4 * (b * b * (2 ^ j * 2 ^ j)) ≡ b * 2 ^ (j + 1) * (b * 2 ^ (j + 1))
   square b =

@@ -40,7 +40,7 @@ units_high b h =
     (λ (t : Bool). cond t ((4503599627370496 + b % 4503599627370496) * 2 ^ (b / 4503599627370496 - 1)) b)
     (is_true (ltb 0 (b / 4503599627370496)) (lt→ltb 0 (b / 4503599627370496) h))
 
-pub same-high : (m f l : ℕ) → 0 < f → m * 2 ^ (f + l - 1) ≡ m * 2 ^ (f - 1) * 2 ^ l
-same-high m f l h =
+pub same_high : (m f l : ℕ) → 0 < f → m * 2 ^ (f + l - 1) ≡ m * 2 ^ (f - 1) * 2 ^ l
+same_high m f l h =
     let q : f + l - 1 ≡ f - 1 + l = omega arith in
     ap (λ (k : ℕ). m * 2 ^ k) q ∙ ap (λ (k : ℕ). m * k) (pow-add 2 (f - 1) l) ∙ sym (mul_assoc m (2 ^ (f - 1)) (2 ^ l))

@@ -7,17 +7,17 @@ use mathlib.Core.List.{List}
 use lib.ListN.{length, get_or}
 use Rattle.image.specs.declared.Geometry.{Geometry}
 use Rattle.image.specs.Layout.{side_limit, area_limit}
-use Rattle.image.specs.LayoutLaws.{sides-small}
+use Rattle.image.specs.LayoutLaws.{sides_small}
 use Rattle.image.specs.Plane.{picture}
 use Rattle.imgproc.specs.declared.threshold.SauvolaConfig.{SauvolaConfig}
 use Rattle.imgproc.specs.Fold.{Box, fold_box}
 use Rattle.imgproc.specs.Reach.{low, high}
 use Rattle.imgproc.specs.Sums.{squared, sum, sum_squares, count, box_sum, rect_sum}
-use Rattle.imgproc.specs.SumLaws.{corners, fold_box_sum, count_is, box_le, mean-square}
+use Rattle.imgproc.specs.SumLaws.{corners, fold_box_sum, count_is, box_le, mean_square}
 use Rattle.imgproc.specs.Sauvola.{window, threshold, threshold_at_pixel}
-use Rattle.imgproc.specs.SauvolaLaws.{window-some}
+use Rattle.imgproc.specs.SauvolaLaws.{window_some}
 use Rattle.imgproc.specs.Tables.{pixels_of, Holds, Ready, entry_at, Corners, corner_sum, Sane}
-use Rattle.imgproc.proofs.threshold.tables.Entries.{entry, box-small, pixel-byte}
+use Rattle.imgproc.proofs.threshold.tables.Entries.{entry, box_small, pixel_byte}
 
 -- a rectangle from x0 to x1 and from y0 to y1, the ends left out
 corners_to :
@@ -53,8 +53,8 @@ module _
         let e01 = entry_is x0 y1 x0w b1 in
         let e10 = entry_is x1 y0 a1 y0h in
         let k = corners_to f x0 x1 y0 y1 a b in
-        let s1 = box-small f w h x1 y1 small a1 b1 W H in
-        let s0 = box-small f w h x0 y0 small x0w y0h W H in (
+        let s1 = box_small f w h x1 y1 small a1 b1 W H in
+        let s0 = box_small f w h x0 y0 small x0w y0h W H in (
           omega (arith, e11, e00, e01, e10, k),
           record {
             across = a;
@@ -66,16 +66,16 @@ module _
         )
 
 -- a side from a to b, the end left out: it has a place, and none past b
-side-some : {a b : ℕ} → a < b → 0 < b - a
-side-some l = omega arith
+side_some : {a b : ℕ} → a < b → 0 < b - a
+side_some l = omega arith
 
 side_in : (a b n : ℕ) → b ≤ n → (i : ℕ) → i < b - a → a + i < n
 side_in a b n l i m = omega arith
 
 -- what the loops ask of a window from x0 to x1 and from y0 to y1, the ends left out: its corners, its count, and the sums that its corners give
 pub record WindowSums (d : List ℕ) (g : Geometry) (ws : List ℕ) (base : ℕ) (config : SauvolaConfig) (x y x0 x1 y0 y1 : ℕ) : Type 0 where
-  pub sum-corners : Corners ws base (g.width + 1) x0 y0 x1 y1
-  pub square-corners : Corners ws (base + (g.width + 1) * (g.height + 1)) (g.width + 1) x0 y0 x1 y1
+  pub sum_corners : Corners ws base (g.width + 1) x0 y0 x1 y1
+  pub square_corners : Corners ws (base + (g.width + 1) * (g.height + 1)) (g.width + 1) x0 y0 x1 y1
   pub count_fits : (x1 - x0) * (y1 - y0) ≤ area_limit
   pub sane : (S Q : ℕ) → S ≡ corner_sum ws base (g.width + 1) x0 y0 x1 y1
       → Q ≡ corner_sum ws (base + (g.width + 1) * (g.height + 1)) (g.width + 1) x0 y0 x1 y1 → Sane S Q ((x1 - x0) * (y1 - y0))
@@ -101,7 +101,7 @@ module _
 
     bytes : (i j : ℕ) → i < g.width → j < g.height → f i j ≤ 255
     unfolding f
-    bytes i j l m = pixel-byte d g byte i j l m
+    bytes i j l m = pixel_byte d g byte i j l m
 
     squares : (i j : ℕ) → i < g.width → j < g.height → squared f i j ≤ 65025
     squares i j l m = mul-le-mul (bytes i j l m) (bytes i j l m)
@@ -128,7 +128,7 @@ module _
 
     small_count : (x1 - x0) * (y1 - y0) ≤ area_limit
     small_count =
-        sides-small (x1 - x0) (y1 - y0)
+        sides_small (x1 - x0) (y1 - y0)
         (le_trans (sub-le x1 x0) (le_trans spans.0.1 R.layout.small_width))
         (le_trans (sub-le y1 y0) (le_trans spans.1.1 R.layout.small_height))
 
@@ -145,36 +145,36 @@ module _
       sums_sane =
           let across : (i : ℕ) → i < x1 - x0 → x0 + i < g.width = side_in x0 x1 g.width spans.0.1 in
           let down : (j : ℕ) → j < y1 - y0 → y0 + j < g.height = side_in y0 y1 g.height spans.1.1 in
-          let c0 : 0 < (x1 - x0) * (y1 - y0) = mul-pos (side-some spans.0.0) (side-some spans.1.0) in
+          let c0 : 0 < (x1 - x0) * (y1 - y0) = mul-pos (side_some spans.0.0) (side_some spans.1.0) in
           record {
             some = c0;
             bright =
                 omega (arith, S_is, box_le (λ i j. f (x0 + i) (y0 + j)) 255 (x1 - x0) (y1 - y0) (λ i j l m. bytes _ _ (across i l) (down j m)));
             squares =
                 omega (arith, Q_is, box_le (λ i j. squared f (x0 + i) (y0 + j)) 65025 (x1 - x0) (y1 - y0) (λ i j l m. squares _ _ (across i l) (down j m)));
-            above = rw (S_is, Q_is) (mean-square (λ i j. f (x0 + i) (y0 + j)) (x1 - x0) (y1 - y0) c0);
+            above = rw (S_is, Q_is) (mean_square (λ i j. f (x0 + i) (y0 + j)) (x1 - x0) (y1 - y0) c0);
           }
 
       -- a sum over the window is the rectangle's
-      window-sum : (e : ℕ → ℕ → ℕ) → rect_sum e x0 y0 (x1 - x0) (y1 - y0) ≡ fold_box ◌+◌ e box
+      window_sum : (e : ℕ → ℕ → ℕ) → rect_sum e x0 y0 (x1 - x0) (y1 - y0) ≡ fold_box ◌+◌ e box
       unfolding box
-      window-sum e =
-          rw (p0, p1, q0, q1) (sym (fold_box_sum e box (window-some config.radius g.width g.height x y a b)))
+      window_sum e =
+          rw (p0, p1, q0, q1) (sym (fold_box_sum e box (window_some config.radius g.width g.height x y a b)))
 
-      same-threshold : threshold config S Q ((x1 - x0) * (y1 - y0)) ≡ threshold_at_pixel config g.width g.height (picture d g) x y
+      same_threshold : threshold config S Q ((x1 - x0) * (y1 - y0)) ≡ threshold_at_pixel config g.width g.height (picture d g) x y
       unfolding threshold_at_pixel f box
-      same-threshold =
-          let S' : S ≡ sum f box = S_is ∙ window-sum f in
-          let Q' : Q ≡ sum_squares f box = Q_is ∙ window-sum (squared f) in
-          let some = window-some config.radius g.width g.height x y a b in
+      same_threshold =
+          let S' : S ≡ sum f box = S_is ∙ window_sum f in
+          let Q' : Q ≡ sum_squares f box = Q_is ∙ window_sum (squared f) in
+          let some = window_some config.radius g.width g.height x y a b in
           let c' : (x1 - x0) * (y1 - y0) ≡ count box = rw (p0, p1, q0, q1) (sym (count_is box some)) in
           rw (S', Q', c')
 
     pub window_sums : WindowSums d g ws base config x y x0 x1 y0 y1
     window_sums = record {
-      sum-corners = of_sums.1;
-      square-corners = of_squares.1;
+      sum_corners = of_sums.1;
+      square_corners = of_squares.1;
       count_fits = small_count;
       sane = sums_sane;
-      threshold_is = same-threshold;
+      threshold_is = same_threshold;
     }

@@ -9,19 +9,19 @@ use lib.Seq.{get_or-set_same, get_or-set_other}
 use borrow.Author.Count.{below_more}
 use borrow.Author.Tests.{le-leb, lt-leb}
 use Rattle.image.specs.Plane.{pixel}
-use Rattle.image.specs.PlaneLaws.{pixel-plane}
+use Rattle.image.specs.PlaneLaws.{pixel_plane}
 use Rattle.imgproc.specs.declared.threshold.SauvolaConfig.{SauvolaConfig}
 use Rattle.imgproc.specs.Sauvola.{threshold_at_pixel, verdict, binarized}
 
 -- v is the pixel, and t its threshold
 module _ (config : SauvolaConfig) (w h : ℕ) (p : List ℕ) (x y : ℕ) {v t : ℕ} (is : v ≡ pixel p w x y) (at : t ≡ threshold_at_pixel config w h p x y) where
-  pub verdict-dark : v ≤ t → config.dark_value ≡ verdict config w h p x y
+  pub verdict_dark : v ≤ t → config.dark_value ≡ verdict config w h p x y
   unfolding verdict
-  verdict-dark l = simp (le-leb (pixel p w x y) (threshold_at_pixel config w h p x y) (rw (is, at) at l))
+  verdict_dark l = simp (le-leb (pixel p w x y) (threshold_at_pixel config w h p x y) (rw (is, at) at l))
 
-  pub verdict-light : t < v → config.light_value ≡ verdict config w h p x y
+  pub verdict_light : t < v → config.light_value ≡ verdict config w h p x y
   unfolding verdict
-  verdict-light l = simp (lt-leb (pixel p w x y) (threshold_at_pixel config w h p x y) (rw (is, at) at l))
+  verdict_light l = simp (lt-leb (pixel p w x y) (threshold_at_pixel config w h p x y) (rw (is, at) at l))
 
 -- the first n numbers of a row are those of f, and the row keeps its length
 pub record FilledSoFar (f : ℕ → ℕ) (w : ℕ) (out₀ out : List ℕ) (n : ℕ) : Type 0 where
@@ -45,7 +45,7 @@ filled_more f w out₀ out n v long s l e =
     }
 
 -- pixel (x, y) of the packed verdicts
-pub binarized-pixel : (config : SauvolaConfig) (w h : ℕ) (p : List ℕ) (x y : ℕ) → x < w → y < h
+pub binarized_pixel : (config : SauvolaConfig) (w h : ℕ) (p : List ℕ) (x y : ℕ) → x < w → y < h
     → pixel (binarized config w h p) w x y ≡ verdict config w h p x y
 unfolding binarized
-binarized-pixel config w h p x y X Y = pixel-plane w h (verdict config w h p) x y X Y
+binarized_pixel config w h p x y X Y = pixel_plane w h (verdict config w h p) x y X Y

@@ -7,7 +7,7 @@ use lib.ListN.{length, length-set, length-append}
 use borrow.Fn.Kinds.{In}
 use borrow.Fn.PlainCycle.{Measures, is, falls, and}
 use Rattle.pgm.specs.Decimal.{digit, decimal}
-use Rattle.pgm.specs.DecimalLaws.{decimal_one, decimal-more}
+use Rattle.pgm.specs.DecimalLaws.{decimal_one, decimal_more}
 use Rattle.pgm.proofs.Places.{puts_byte, puts_length, puts_then}
 use Rattle.pgm.proofs.put_number.Reads as put-number
 use Rattle.pgm.proofs.put_number.Kinds as put-number-kinds
@@ -19,8 +19,8 @@ use Rattle.pgm.proofs.+put_number.Tie.{close}
 one_long : (n : ℕ) → n < 10 → length (decimal n) ≡ 1
 one_long n s = ap length (decimal_one n s)
 
-more-long : (n : ℕ) → 10 ≤ n → length (decimal n) ≡ length (decimal (n / 10)) + 1
-more-long n l = ap length (decimal-more n l) ∙ length-append (decimal (n / 10)) (digit (n % 10) ∷ [])
+more_long : (n : ℕ) → 10 ≤ n → length (decimal n) ≡ length (decimal (n / 10)) + 1
+more_long n l = ap length (decimal_more n l) ∙ length-append (decimal (n / 10)) (digit (n % 10) ∷ [])
 
 abbrev μ-put-number : Measures 1 put-number-kinds.ps ℕ
 μ-put-number κs a = a.1.1.0
@@ -36,8 +36,8 @@ module _ (t : ℕ) where
   cast_out : put-number-lts.Need-overflow-cast-out (put_number_below t, put-number.Post) (put_number_at t) put-number.Post
   cast_out c = omega arith
 
-  add-out : put-number-lts.Need-overflow-add-out (put_number_below t, put-number.Post) (put_number_at t) put-number.Post
-  add-out c = omega arith
+  add_out : put-number-lts.Need-overflow-add-out (put_number_below t, put-number.Post) (put_number_at t) put-number.Post
+  add_out c = omega arith
 
   slice_write_out : put-number-lts.Need-slice-write-out (put_number_below t, put-number.Post) (put_number_at t) put-number.Post
   slice_write_out c = omega (arith, one_long c.before.before.args.number c.if1.true)
@@ -57,7 +57,7 @@ module _ (t : ℕ) where
   put_number_requires : put-number-lts.Need-put-number-requires (put_number_below t, put-number.Post) (put_number_at t) put-number.Post
   put_number_requires c κs =
       let start = c.before.before.before in
-      (omega (arith, start.requires.0), omega (arith, start.requires.1, more-long start.args.number c.before.if1.false))
+      (omega (arith, start.requires.0), omega (arith, start.requires.1, more_long start.args.number c.before.if1.false))
 
   cast_out_2 : put-number-lts.Need-overflow-cast-out-2 (put_number_below t, put-number.Post) (put_number_at t) put-number.Post
   cast_out_2 c = omega arith
@@ -70,7 +70,7 @@ module _ (t : ℕ) where
       let call = c.before.before in
       let other = call.before.before in
       let start = other.before.before in
-      let m = more-long start.args.number other.if1.false in
+      let m = more_long start.args.number other.if1.false in
       omega (arith, start.requires.1, call.put-number.ensures.answers, puts_length call.put-number.ensures (omega (arith, start.requires.1)))
 
   add_result_2 : put-number-lts.Need-overflow-add-result-2 (put_number_below t, put-number.Post) (put_number_at t) put-number.Post
@@ -78,7 +78,7 @@ module _ (t : ℕ) where
       let call = c.before.before in
       let other = call.before.before in
       let start = other.before.before in
-      omega (arith, start.requires.1, call.put-number.ensures.answers, more-long start.args.number other.if1.false)
+      omega (arith, start.requires.1, call.put-number.ensures.answers, more_long start.args.number other.if1.false)
 
   same_length_2 : put-number-lts.Need-same-length-2 (put_number_below t, put-number.Post) (put_number_at t) put-number.Post
   same_length_2 c = simp length-set c.before.before.put-number.auto.0
@@ -88,8 +88,8 @@ module _ (t : ℕ) where
       let call = c.before.before in
       let other = call.before.before in
       let start = other.before.before in
-      let m = more-long start.args.number other.if1.false in
-      rw (decimal-more start.args.number other.if1.false)
+      let m = more_long start.args.number other.if1.false in
+      rw (decimal_more start.args.number other.if1.false)
       (puts_then call.put-number.ensures (digit (start.args.number % 10)) (omega (arith, start.requires.1)))
 
 pub +put-number-spec : {M : Type 1} → statement M
@@ -98,7 +98,7 @@ pub +put-number-spec : {M : Type 1} → statement M
     (λ t.
     put-number-lts.spec (put_number_below t, put-number.Post) (put_number_at t) put-number.Post
     (cast_out t)
-    (add-out t)
+    (add_out t)
     (slice_write_out t)
     (add_result t)
     (same_length t)

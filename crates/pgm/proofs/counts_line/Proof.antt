@@ -7,14 +7,14 @@ use lib.ListN.{length}
 use Rattle.pgm.specs.Line.{line}
 use Rattle.pgm.specs.LineLaws.{word_short}
 use Rattle.pgm.specs.Steps.{three}
-use Rattle.pgm.proofs.Lines.{three-long, threes_line, no_room, written}
+use Rattle.pgm.proofs.Lines.{three_long, threes_line, no_room, written}
 use Rattle.pgm.proofs.Places.{puts_length, puts_join}
 use Rattle.pgm.proofs.counts_line.Statement.{statement}
 use Rattle.pgm.proofs.counts_line.Tie as tie
 
 -- three numbers of 64 bits, with a byte after each, have at most 63 bytes
 short : (a b c end : ℕ) → a < 2 ^ 64 → b < 2 ^ 64 → c < 2 ^ 64 → length (three a b c end) ≤ 63
-short a b c end h i j = omega (arith, three-long a b c end, word_short a h, word_short b i, word_short c j)
+short a b c end h i j = omega (arith, three_long a b c end, word_short a h, word_short b i, word_short c j)
 
 returns : tie.Need-returns
 returns c =

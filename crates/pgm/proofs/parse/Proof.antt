@@ -3,7 +3,7 @@ use borrow.Author.Rules.{rules}
 use native.Mathlib.Omega.{arith}
 use Rattle.pgm.specs.ParseLaws.{parsed_from_lem, picture_from}
 use Rattle.pgm.specs.declared.Parsed.TheVariants.{Malformed}
-use Rattle.pgm.proofs.parse.Proof.Counted.{header_as, no_header, header-inside, pixels-few, miscounted, formed}
+use Rattle.pgm.proofs.parse.Proof.Counted.{header_as, no_header, header_inside, pixels_few, miscounted, formed}
 use Rattle.pgm.proofs.parse.Statement.{statement}
 use Rattle.pgm.proofs.parse.Tie as tie
 mod Counted
@@ -27,13 +27,13 @@ sub-if1 : tie.Need-overflow-sub-if1
 sub-if1 c =
     let read = c.before.before.before in
     let l = read.before.before.args.input.now in
-    header-inside l _ _ _ (header_as l c.before.width.given.1 read.read-header.ensures)
+    header_inside l _ _ _ (header_as l c.before.width.given.1 read.read-header.ensures)
 
 mul-if1 : tie.Need-overflow-mul-if1
 mul-if1 c =
     let read = c.before.before.before in
     let l = read.before.before.args.input.now in
-    let f = pixels-few l _ _ _ (header_as l c.before.width.given.1 read.read-header.ensures) in
+    let f = pixels_few l _ _ _ (header_as l c.before.width.given.1 read.read-header.ensures) in
     omega arith
 
 returns_2 : tie.Need-returns-2

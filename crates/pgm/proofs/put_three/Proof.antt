@@ -4,14 +4,14 @@ use native.Mathlib.Omega.{arith}
 use Prim.Native.Nat.{ℕ, ◌^◌, ◌≤◌, ◌<◌}
 use lib.ListN.{length, length-append}
 use Rattle.pgm.specs.LineLaws.{word_short}
-use Rattle.pgm.proofs.Lines.{field, field-long, fields_three}
+use Rattle.pgm.proofs.Lines.{field, field_long, fields_three}
 use Rattle.pgm.proofs.Places.{puts_length, puts_join}
 use Rattle.pgm.proofs.put_three.Statement.{statement}
 use Rattle.pgm.proofs.put_three.Tie as tie
 
 -- a field of a number of 64 bits has at most 21 bytes
 short : (n end : ℕ) → n < 2 ^ 64 → length (field n end) ≤ 21
-short n end h = omega (arith, field-long n end, word_short n h)
+short n end h = omega (arith, field_long n end, word_short n h)
 
 put-field-requires : tie.Need-put-field-requires
 put-field-requires c κs = search rules

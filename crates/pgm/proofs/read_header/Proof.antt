@@ -3,7 +3,7 @@ use borrow.Author.Rules.{rules}
 use native.Mathlib.Omega.{arith}
 use borrow.Author.Tests.{not-true, not-false}
 use Rattle.pgm.specs.Form.{magic, ending}
-use Rattle.pgm.proofs.read_header.Proof.Headers.{stands_as, side_as, no-magic, no_width, no_height, no-ending, headed}
+use Rattle.pgm.proofs.read_header.Proof.Headers.{stands_as, side_as, no_magic, no_width, no_height, no_ending, headed}
 use Rattle.pgm.proofs.read_header.Statement.{statement}
 use Rattle.pgm.proofs.read_header.Tie as tie
 mod Headers
@@ -17,7 +17,7 @@ stands-requires c κs = search rules
 returns : tie.Need-returns
 returns c =
     let l = c.before.before.before.before.args.input.now in
-    no-magic l (stands_as l 0 magic (not-true c.before.stands.result c.if1.true) c.before.stands.ensures)
+    no_magic l (stands_as l 0 magic (not-true c.before.stands.result c.if1.true) c.before.stands.ensures)
 
 read-side-requires : tie.Need-read-side-requires
 read-side-requires c κs =
@@ -75,7 +75,7 @@ returns-4 c =
     let width = side2.before.before in
     let side = width.before.before in
     let l = side.before.before.before.before.before.args.input.now in
-    no-ending l _ _ (side_as l 3 width.width.given.1 side.read-side.ensures) _ _
+    no_ending l _ _ (side_as l 3 width.width.given.1 side.read-side.ensures) _ _
     (side_as l _ height.height.given.1 side2.read-side2.ensures)
     (stands_as l height.height.given.0.1.0 ending (not-true c.before.stands2.result c.if2.true) c.before.stands2.ensures)
 

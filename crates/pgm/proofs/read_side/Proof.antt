@@ -3,7 +3,7 @@ use borrow.Author.Rules.{rules}
 use native.Mathlib.Omega.{arith}
 use Prim.Native.Nat.{◌/◌, ◌%◌, ◌<◌}
 use mathlib.Core.Path.{sym, ◌∙◌}
-use Rattle.pgm.proofs.read_side.Proof.Sides.{no-side, one_is, two_read}
+use Rattle.pgm.proofs.read_side.Proof.Sides.{no_side, one_is, two_read}
 use Rattle.pgm.proofs.read_side.Statement.{statement}
 use Rattle.pgm.proofs.read_side.Tie as tie
 mod Bytes
@@ -16,7 +16,7 @@ returns : tie.Need-returns
 returns c =
     let a = c.before.before.before.args in
     let none = c.before.digit_at.ensures.none c.if1.true in
-    no-side a.input.now a.at (λ n s o. none n s o.first) (λ n N o. none (n / 10) (omega arith) o.first)
+    no_side a.input.now a.at (λ n s o. none n s o.first) (λ n N o. none (n / 10) (omega arith) o.first)
 
 add-byte-at : tie.Need-overflow-add-byte-at
 add-byte-at c = search rules
@@ -47,7 +47,7 @@ returns-3 c =
     let other = c.before.before in
     let byte = other.before in
     let a = byte.before.before.before.before.args in
-    no-side a.input.now a.at
+    no_side a.input.now a.at
     (λ n s o. other.if2.false (byte.byte_at.ensures ∙ o.space))
     (λ n N o. c.before.digit-at2.ensures.none c.if3.true (n % 10) (omega arith) o.second)
 
@@ -57,7 +57,7 @@ returns-4 c =
     let byte = other.before in
     let first = byte.before.before in
     let a = first.before.before.args in
-    no-side a.input.now a.at
+    no_side a.input.now a.at
     (λ n s o. other.if2.false (byte.byte_at.ensures ∙ o.space))
     (λ n N o. omega (arith, first.digit_at.ensures.is (omega arith)))
 
@@ -72,7 +72,7 @@ returns-5 c =
     let other = c.before.before.before.before.before in
     let byte = other.before in
     let a = byte.before.before.before.before.args in
-    no-side a.input.now a.at
+    no_side a.input.now a.at
     (λ n s o. other.if2.false (byte.byte_at.ensures ∙ o.space))
     (λ n N o. c.if5.true (c.before.byte-at2.ensures ∙ o.space))
 
@@ -89,7 +89,7 @@ returns-6 c =
     let byte = other.before in
     let first = byte.before.before in
     let a = first.before.before.args in
-    no-side a.input.now a.at
+    no_side a.input.now a.at
     (λ n s o. other.if2.false (byte.byte_at.ensures ∙ o.space))
     (λ n N o. omega (arith, c.if6.true, first.digit_at.ensures.is (omega arith), second.digit-at2.ensures.is (omega arith)))
 

@@ -3,7 +3,7 @@ use borrow.Author.Rules.{rules}
 use native.Mathlib.Omega.{arith}
 use Rattle.pgm.specs.Line.{refused_line}
 use Rattle.pgm.specs.LineLaws.{word_short}
-use Rattle.pgm.proofs.Lines.{field-long, no_room, written}
+use Rattle.pgm.proofs.Lines.{field_long, no_room, written}
 use Rattle.pgm.proofs.Places.{puts_join}
 use Rattle.pgm.proofs.refused_line.Statement.{statement}
 use Rattle.pgm.proofs.refused_line.Tie as tie
@@ -34,7 +34,7 @@ returns_2 c =
     let a = start.args in
     let s = word_short a.number (omega (arith, start)) in
     written (refused_line a.number) a.out.now _ _ other.if1.false
-    (puts_join word.put-text.ensures _ _ _ all.put-field.ensures (omega (arith, other.if1.false, field-long a.number 10)))
+    (puts_join word.put-text.ensures _ _ _ all.put-field.ensures (omega (arith, other.if1.false, field_long a.number 10)))
 
 pub refused-line-spec : {M : Type 1} → statement M
 refused-line-spec =

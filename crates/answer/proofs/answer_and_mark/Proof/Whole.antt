@@ -25,8 +25,8 @@ use Rattle.pgm.specs.Parse.{parsed_of}
 use Rattle.pgm.specs.ParseLaws.{parsed_answers}
 use Rattle.answer.specs.Answer.{settings, tight, Buffers, lent_to, answer_of, AnswersInput}
 use Rattle.answer.specs.Program.{empty, picture_line, picture_marks, most_pixels, most_bytes, most_u64s, AnswersAndMarks}
-use Rattle.answer.specs.ProgramLaws.{line-picture, line_other, marks_picture, marks_by_lem}
-use Rattle.answer.specs.RoomLaws.{room-enough, empty-refused}
+use Rattle.answer.specs.ProgramLaws.{line_picture, line_other, marks_picture, marks_by_lem}
+use Rattle.answer.specs.RoomLaws.{room_enough, empty_refused}
 
 module _ (input : List ℕ) {lent left : Buffers} {n : ℕ}
     (d : most_pixels ≤ length lent.dst) (b : most_bytes ≤ length lent.bytes) (q : most_u64s ≤ length lent.u64s)
@@ -46,7 +46,7 @@ module _ (input : List ℕ) {lent left : Buffers} {n : ℕ}
         let x = a.picture w h f in
         let counts = reading_of settings w h (picture f.pixels (tight w h)) in
         let marks = painted_on lent.dst (tight w h) (marked settings w h (picture f.pixels (tight w h))) in
-        let text = ap (λ (k : Check). answer_of w h (answer_by k counts)) c ∙ p ∙ sym (line-picture input w h f) in
+        let text = ap (λ (k : Check). answer_of w h (answer_by k counts)) c ∙ p ∙ sym (line_picture input w h f) in
         record {
           writes = subst (λ (t : List ℕ). Writes t lent.out n left.out) text x.writes;
           marks = x.reads.leaves ∙ ap (λ (k : Check). left_by k marks lent.dst) c ∙ m ∙ sym (marks_picture input w h f lent.dst);
@@ -56,13 +56,13 @@ module _ (input : List ℕ) {lent left : Buffers} {n : ℕ}
     either : (w h : ℕ) (f : Form input w h) (e : Bool) → empty w h ≡ e → Answer
     either w h f true x =
         let rest = reading_settings settings then reading_room (tight w h) settings (length lent.bytes) (length lent.u64s) in
-        checked w h f (Refused (Image EmptyDimensions)) (empty-refused w h _ _ rest x) (rw x) (rw x)
+        checked w h f (Refused (Image EmptyDimensions)) (empty_refused w h _ _ rest x) (rw x) (rw x)
     either w h f false x =
         let s = neither (eqb w 0) (eqb h 0) x in
         let W = pos_of_ne-zero (eqb-false w 0 s.0) in
         let H = pos_of_ne-zero (eqb-false h 0 s.1) in
         let k : picture f.pixels (tight w h) ≡ f.pixels = picture_again f.pixels (tight w h) W refl f.counted in
-        checked w h f Accepted (room-enough w h W H f.wide f.high _ _ _ _ (omega (arith, f.counted)) d b q) (rw (k, x)) (rw (k, x))
+        checked w h f Accepted (room_enough w h W H f.wide f.high _ _ _ _ (omega (arith, f.counted)) d b q) (rw (k, x)) (rw (k, x))
 
     pub whole : AnswersAndMarks input lent.dst lent.out n left.dst left.out
     unfolding Answer

@@ -10,8 +10,8 @@ use lib.ListN.{length, take, drop, length-append, take-append-drop}
 use lib.Seq.{length-take-le, take_at, drop-append-le, drop-append-add, drop-drop}
 use borrow.Author.Tests.{eq-eqb, ne_eqb, eqb-false}
 use Rattle.image.specs.Plane.{pixel, painted_on, overwritten}
-use Rattle.image.specs.PlaneLaws.{in_plane, pixel-plane, plane-same, length-plane}
-use Rattle.image.specs.PaintLaws.{painted-pixel}
+use Rattle.image.specs.PlaneLaws.{in_plane, pixel_plane, plane_same, length-plane}
+use Rattle.image.specs.PaintLaws.{painted_pixel}
 use Rattle.image.specs.Views.{length-painted_on}
 use Rattle.imgproc.specs.declared.reading.judging.Judgement.{Judgement}
 use Rattle.imgproc.specs.declared.reading.judging.Judgement.TheVariants.{Dark, Light, Skipped}
@@ -111,12 +111,12 @@ module _ {input out dst part dst' : List ℕ} {n : ℕ} (k : Lined input out dst
   undrawn r a z = alone (program_line input) (program_rows input) out (part ++ drop line_room out) (rows_by_lem input r a ∙ z) line.answers begins
 
   -- because the width is 0
-  pub undrawn-wide : (w h at : ℕ) → Answers input (Picture w h at) → w ≡ 0 → Prints (program_drawing input) out n (part ++ drop line_room out)
-  undrawn-wide w h at a z = undrawn (Picture w h at) a (rw (eq-eqb w 0 z))
+  pub undrawn_wide : (w h at : ℕ) → Answers input (Picture w h at) → w ≡ 0 → Prints (program_drawing input) out n (part ++ drop line_room out)
+  undrawn_wide w h at a z = undrawn (Picture w h at) a (rw (eq-eqb w 0 z))
 
   -- or the height
-  pub undrawn-high : (w h at : ℕ) → Answers input (Picture w h at) → (w ≡ 0 → ⊥) → h ≡ 0 → Prints (program_drawing input) out n (part ++ drop line_room out)
-  undrawn-high w h at a W z = undrawn (Picture w h at) a (rw (ne_eqb w 0 W, eq-eqb h 0 z))
+  pub undrawn_high : (w h at : ℕ) → Answers input (Picture w h at) → (w ≡ 0 → ⊥) → h ≡ 0 → Prints (program_drawing input) out n (part ++ drop line_room out)
+  undrawn_high w h at a W z = undrawn (Picture w h at) a (rw (ne_eqb w 0 W, eq-eqb h 0 z))
 
   -- the rows of a picture with no zero side
   module _ (w h at : ℕ) (a : Answers input (Picture w h at)) (W : w ≡ 0 → ⊥) (H : h ≡ 0 → ⊥) where
@@ -130,8 +130,8 @@ module _ {input out dst part dst' : List ℕ} {n : ℕ} (k : Lined input out dst
         ∙ marks_by_lem input (Picture w h at) a dst
         ∙ ap (λ (b : Bool). cond b dst (painted_on dst (tight w h) (marked settings w h (drop at input)))) full
 
-    pub length_marks : length dst' ≡ most_pixels
-    length_marks = ap length left_marks ∙ length-painted_on dst (tight w h) (marked settings w h (drop at input)) ∙ k.pixels
+    pub length-marks : length dst' ≡ most_pixels
+    length-marks = ap length left_marks ∙ length-painted_on dst (tight w h) (marked settings w h (drop at input)) ∙ k.pixels
 
     area : w * h ≤ most_pixels
     area = mul-le-mul a.0.wide a.0.high
@@ -144,8 +144,8 @@ module _ {input out dst part dst' : List ℕ} {n : ℕ} (k : Lined input out dst
     unfolding marked judgement
     pixel_is x y X Y =
         ap (λ (d : List ℕ). pixel d w x y) left_marks
-        ∙ painted-pixel (marked settings w h (drop at input)) w h w dst x y X Y (omega arith) (omega (arith, k.pixels, area, in_plane w h x y X Y))
-        ∙ pixel-plane w h (λ x y. byte_of settings.sauvola (judgement x y)) x y X Y
+        ∙ painted_pixel (marked settings w h (drop at input)) w h w dst x y X Y (omega arith) (omega (arith, k.pixels, area, in_plane w h x y X Y))
+        ∙ pixel_plane w h (λ x y. byte_of settings.sauvola (judgement x y)) x y X Y
 
     -- so each byte of its rows is drawn as the program draws it
     byte_is : (x y : ℕ) → x < w + 1 → y < h → row_byte (λ x y. ink_of (pixel dst' w x y)) w x y ≡ row_byte (λ x y. mark_of (judgement x y)) w x y
@@ -163,13 +163,13 @@ module _ {input out dst part dst' : List ℕ} {n : ℕ} (k : Lined input out dst
     rows_same =
         rows_by_lem input (Picture w h at) a
         ∙ ap (λ (b : Bool). cond b [] (rows_of w h (λ x y. mark_of (judgement x y)))) full
-        ∙ sym (plane-same (w + 1) h (row_byte (λ x y. ink_of (pixel dst' w x y)) w) (row_byte (λ x y. mark_of (judgement x y)) w) (omega arith) byte_is)
+        ∙ sym (plane_same (w + 1) h (row_byte (λ x y. ink_of (pixel dst' w x y)) w) (row_byte (λ x y. mark_of (judgement x y)) w) (omega arith) byte_is)
 
     -- there is room for them
     pub room_rows : Room dst' w h (part ++ drop line_room out) n
     room_rows = record {
       small = omega (arith, a.0.wide);
-      holds = omega (arith, area, length_marks);
+      holds = omega (arith, area, length-marks);
       fits = omega (arith, k.room, length-after, short, line.answers, most);
     }
       where

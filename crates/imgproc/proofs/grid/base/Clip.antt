@@ -38,9 +38,9 @@ high (negsuc n) h = absurd (true≢false (sym h))
 abbrev Byte : ℤ → Type 0
 Byte s = T (non_neg s) × Fits w8 (nat_abs s)
 
-mid-fits : (s : ℤ) → lt_z s (pos 0) ≡ false → lt_z (pos 255) s ≡ false → Byte s
-mid-fits (pos n) h k = (tt, record { fits = let l = nltb→le 255 n (subst (λ (t : Bool). T (not t)) (sym k) tt) in omega arith })
-mid-fits (negsuc n) h k = absurd (true≢false h)
+mid_fits : (s : ℤ) → lt_z s (pos 0) ≡ false → lt_z (pos 255) s ≡ false → Byte s
+mid_fits (pos n) h k = (tt, record { fits = let l = nltb→le 255 n (subst (λ (t : Bool). T (not t)) (sym k) tt) in omega arith })
+mid_fits (negsuc n) h k = absurd (true≢false h)
 
 mid : (s : ℤ) → lt_z s (pos 0) ≡ false → lt_z (pos 255) s ≡ false → nat_abs s ≡ clipped s
 mid (pos n) h k = let l = nltb→le 255 n (subst (λ (t : Bool). T (not t)) (sym k) tt) in omega arith
@@ -82,7 +82,7 @@ module _ (b : ℕ) (z : ℤ) (B : b < 256) (Z : SFits w16 z) where
   is_high h = high (pos b +ℤ z) (ap (lt_z (pos 255)) (sym total_is) ∙ h)
 
   pub is_byte : lt_z total (pos 0) ≡ false → lt_z (pos 255) total ≡ false → Byte total
-  is_byte h k = subst Byte (sym total_is) (mid-fits (pos b +ℤ z) (ap (λ (x : ℤ). lt_z x (pos 0)) (sym total_is) ∙ h) (ap (lt_z (pos 255)) (sym total_is) ∙ k))
+  is_byte h k = subst Byte (sym total_is) (mid_fits (pos b +ℤ z) (ap (λ (x : ℤ). lt_z x (pos 0)) (sym total_is) ∙ h) (ap (lt_z (pos 255)) (sym total_is) ∙ k))
 
   pub is_mid : lt_z total (pos 0) ≡ false → lt_z (pos 255) total ≡ false → nat_abs total ≡ clipped (pos b +ℤ z)
   is_mid h k = ap nat_abs total_is ∙ mid (pos b +ℤ z) (ap (λ (x : ℤ). lt_z x (pos 0)) (sym total_is) ∙ h) (ap (lt_z (pos 255)) (sym total_is) ∙ k)

@@ -32,19 +32,19 @@ range_ok (inf true) h = refl
 range_ok (inf false) h = sym h
 range_ok (fin s m e) h = refl
 
-no-right : (a : Bool) → false ≡ (a && false)
-no-right true = refl
-no-right false = refl
+no_right : (a : Bool) → false ≡ (a && false)
+no_right true = refl
+no_right false = refl
 
 pub all : (k r : Float) → lt k (inf false) ≡ true → lt (inf true) k ≡ true → lt r (inf false) ≡ true → lt (fin false 0 (pos 0)) r ≡ usable_floats k r
 all k r h l g = range_ok r g ∙ ap (λ (t : Bool). t && finite r && lt (fin false 0 (pos 0)) r) (sym (both_ends k h l))
 
 pub no_range : (k r : Float) → lt r (inf false) ≡ false → false ≡ usable_floats k r
 no_range k r g =
-    ap (λ (t : Bool). t && lt (fin false 0 (pos 0)) r) (no-right (finite k)) ∙ ap (λ (t : Bool). finite k && t && lt (fin false 0 (pos 0)) r) (sym (above r g))
+    ap (λ (t : Bool). t && lt (fin false 0 (pos 0)) r) (no_right (finite k)) ∙ ap (λ (t : Bool). finite k && t && lt (fin false 0 (pos 0)) r) (sym (above r g))
 
-pub no-low : (k r : Float) → lt (inf true) k ≡ false → false ≡ usable_floats k r
-no-low k r h = ap (λ (t : Bool). t && finite r && lt (fin false 0 (pos 0)) r) (sym (below k h))
+pub no_low : (k r : Float) → lt (inf true) k ≡ false → false ≡ usable_floats k r
+no_low k r h = ap (λ (t : Bool). t && finite r && lt (fin false 0 (pos 0)) r) (sym (below k h))
 
-pub no-high : (k r : Float) → lt k (inf false) ≡ false → false ≡ usable_floats k r
-no-high k r h = ap (λ (t : Bool). t && finite r && lt (fin false 0 (pos 0)) r) (sym (above k h))
+pub no_high : (k r : Float) → lt k (inf false) ≡ false → false ≡ usable_floats k r
+no_high k r h = ap (λ (t : Bool). t && finite r && lt (fin false 0 (pos 0)) r) (sym (above k h))

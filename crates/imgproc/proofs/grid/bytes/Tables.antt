@@ -6,7 +6,7 @@ use native.Mathlib.Omega.{arith}
 use lib.Seq.{ext_get_or}
 use Rattle.image.specs.Plane.{tabulate, pixel, picture}
 use Rattle.image.specs.PlaneLaws.{length-tabulate, get_d_tabulate}
-use Rattle.image.specs.Views.{pixel-picture}
+use Rattle.image.specs.Views.{pixel_picture}
 use Rattle.imgproc.specs.declared.grid.config.TileThresholdConfig.{TileThresholdConfig}
 use Rattle.imgproc.specs.declared.grid.tiles.TileNumbers.{TileNumbers}
 use Rattle.imgproc.specs.declared.grid.bytes.TileByte.TheVariants.{Threshold, Skip}
@@ -16,10 +16,10 @@ use Rattle.imgproc.specs.TileBytes.{byte_by}
 use Rattle.imgproc.specs.Tiles.{numbers_in, GatherLent, GatherReady, Gathers, joined_around, each_tile}
 use Rattle.imgproc.proofs.grid.tiles.Counts.{column, row}
 use Rattle.imgproc.proofs.grid.tiles.Numbers.{same_in}
-use Rattle.imgproc.proofs.grid.tiles.Neighbours.{around-joined, some-around}
+use Rattle.imgproc.proofs.grid.tiles.Neighbours.{around_joined, some_around}
 
-tabulate-same : (f g : ℕ → ℕ) (n : ℕ) → ((i : ℕ) → i < n → f i ≡ g i) → tabulate f n ≡ tabulate g n
-tabulate-same f g n e =
+tabulate_same : (f g : ℕ → ℕ) (n : ℕ) → ((i : ℕ) → i < n → f i ≡ g i) → tabulate f n ≡ tabulate g n
+tabulate_same f g n e =
     ext_get_or 0 _ _ (length-tabulate f n ∙ sym (length-tabulate g n))
     (λ i h. let t : i < n = omega (arith, length-tabulate f n) in get_d_tabulate f n i t ∙ e i t ∙ sym (get_d_tabulate g n i t))
 
@@ -41,21 +41,21 @@ module _ (lent : GatherLent) {ws : List ℕ} (ready : GatherReady lent) (gathers
   p = picture lent.src lent.source
 
   -- the numbers joined around a tile are those of the packed picture
-  joined-picture : (i j : ℕ) → i < tiles_x_of g w → j < tiles_y_of g h
+  joined_picture : (i j : ℕ) → i < tiles_x_of g w → j < tiles_y_of g h
       → joined_around g.neighborhood_radius (tiles_x_of g w) (tiles_y_of g h) lent.at ws i j ≡ numbers_in (pixel p w) (around g w h i j)
-  joined-picture i j I J =
+  joined_picture i j I J =
       let z = ready.sized in
       let got = gathers.gathered in
-      around-joined f g w h lent.at ws z got i j I J
-      ∙ same_in f (pixel p w) (around g w h i j) (some-around f g w h lent.at ws z got i j I J)
-      (λ x y X Y. sym (pixel-picture lent.src lent.source x y (omega (arith, z.wide)) (omega (arith, z.high))))
+      around_joined f g w h lent.at ws z got i j I J
+      ∙ same_in f (pixel p w) (around g w h i j) (some_around f g w h lent.at ws z got i j I J)
+      (λ x y X Y. sym (pixel_picture lent.src lent.source x y (omega (arith, z.wide)) (omega (arith, z.high))))
 
   bytes_are : (by : TileNumbers → ℕ) (f : ℕ → ℕ → ℕ) → ((i j : ℕ) → by (numbers_in (pixel p w) (around g w h i j)) ≡ f i j)
       → each_tile by g w h lent.at ws ≡ tabulate (λ t. f (t % tiles_x_of g w) (t / tiles_x_of g w)) (tiles_x_of g w * tiles_y_of g h)
   bytes_are by f e =
       let z = ready.sized in
-      tabulate-same _ _ (tiles_x_of g w * tiles_y_of g h)
-      (λ t T. ap by (joined-picture (t % tiles_x_of g w) (t / tiles_x_of g w) (column z refl refl t) (row z refl refl t T)) ∙ e (t % tiles_x_of g w) (t / tiles_x_of g w))
+      tabulate_same _ _ (tiles_x_of g w * tiles_y_of g h)
+      (λ t T. ap by (joined_picture (t % tiles_x_of g w) (t / tiles_x_of g w) (column z refl refl t) (row z refl refl t T)) ∙ e (t % tiles_x_of g w) (t / tiles_x_of g w))
 
   pub thresholds_are : each_tile (byte_by Threshold g) g w h lent.at ws ≡ thresholds g w h p
   unfolding thresholds threshold_of

@@ -6,7 +6,7 @@ use Rattle.imgproc.specs.GridCalls.{grid_settings, tile_count, grid_room}
 use Rattle.imgproc.specs.Refusals.{first}
 use Rattle.imgproc.specs.Tiles.{Sized}
 use Rattle.imgproc.specs.RefusalLaws.{then_accepted, then_refused}
-use Rattle.imgproc.proofs.grid.Ways.{sides-accepted}
+use Rattle.imgproc.proofs.grid.Ways.{sides_accepted}
 use Rattle.imgproc.proofs.grid.tiles.Counts.{few, total}
 use borrow.Author.Rules.{rules}
 use Rattle.imgproc.proofs.grid.check_build.Statement.{statement}
@@ -36,7 +36,7 @@ sized : (c : tie.After-enum-told)
     → Sized c.before.before.before.args.config c.before.before.before.args.geometry.width c.before.before.before.args.geometry.height
 sized c =
     let s = c.before.before.before in
-    let d = sides-accepted s.args.config (sym c.before.before.check-settings.ensures ∙ c.enum_told.given.1) in
+    let d = sides_accepted s.args.config (sym c.before.before.check-settings.ensures ∙ c.enum_told.given.1) in
     record { wide = s.requires.0; high = s.requires.2; small_width = s.requires.1; small_height = s.requires.3; tile_width = d.0; tile_height = d.1 }
 
 tiles-along-requires : tie.Need-tiles-along-requires

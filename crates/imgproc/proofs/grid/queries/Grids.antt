@@ -18,7 +18,7 @@ use Rattle.imgproc.specs.declared.grid.queries.TilePlace.{TilePlace}
 use Rattle.imgproc.specs.declared.grid.queries.TilePlace.TheVariants.{At, Refused as TilePlace-as-Refused}
 use Rattle.imgproc.specs.Reach.{ceiling}
 use Rattle.imgproc.specs.Grid.{tiles_limit}
-use Rattle.imgproc.specs.GridLaws.{tiles-small}
+use Rattle.imgproc.specs.GridLaws.{tiles_small}
 use Rattle.imgproc.specs.GridCalls.{
   bad_side,
   bad_grid,
@@ -45,8 +45,8 @@ pub record Sound (q : TileThresholdGrid) : Type 0 where
   pub across : q.tiles_x ≡ ceiling q.width q.tile_width
   pub down : q.tiles_y ≡ ceiling q.height q.tile_height
 
-small-side : (n : ℕ) → bad_side n ≡ false → n ≤ side_limit
-small-side n e = ltb-false _ _ (neither (eqb n 0) (ltb side_limit n) e).1
+small_side : (n : ℕ) → bad_side n ≡ false → n ≤ side_limit
+small_side n e = ltb-false _ _ (neither (eqb n 0) (ltb side_limit n) e).1
 
 held : (a : Bool) → not a ≡ false → a ≡ true
 held true e = refl
@@ -61,8 +61,8 @@ sound q e =
     let n3 = neither _ (eqb q.tile_width 0) n4.0 in
     let n2 = neither (bad_side q.width) (bad_side q.height) n3.0 in
     record {
-      small_width = small-side q.width n2.0;
-      small_height = small-side q.height n2.1;
+      small_width = small_side q.width n2.0;
+      small_height = small_side q.height n2.1;
       tile_width = pos_of_ne-zero (eqb-false _ _ n3.1);
       tile_height = pos_of_ne-zero (eqb-false _ _ n4.1);
       across = eqb-true _ _ (held _ n5.1);
@@ -70,21 +70,21 @@ sound q e =
     }
 
 -- its tiles are within their limit
-pub few-tiles : {q : TileThresholdGrid} → Sound q → q.tiles_x * q.tiles_y ≤ tiles_limit
-few-tiles s = tiles-small s.across s.down s.tile_width s.tile_height s.small_width s.small_height
+pub few_tiles : {q : TileThresholdGrid} → Sound q → q.tiles_x * q.tiles_y ≤ tiles_limit
+few_tiles s = tiles_small s.across s.down s.tile_width s.tile_height s.small_width s.small_height
 
 -- the tile of a sample is one of the axis
-tile-within : (n t i : ℕ) → 0 < t → i < n → i / t < ceiling n t
-tile-within n t i T I = (le-div_iff_mul-le {k = t} {x = suc (i / t)} {y = n + t - 1} T).1 (omega (arith, suc-mul (i / t) t, div-mul-le_self i t))
+tile_within : (n t i : ℕ) → 0 < t → i < n → i / t < ceiling n t
+tile_within n t i T I = (le-div_iff_mul-le {k = t} {x = suc (i / t)} {y = n + t - 1} T).1 (omega (arith, suc-mul (i / t) t, div-mul-le_self i t))
 
 module _ {q : TileThresholdGrid} (s : Sound q) where
-  pub tile-row : (y : ℕ) → y < q.height → y / q.tile_height * q.tiles_x + q.tiles_x ≤ q.tiles_x * q.tiles_y
-  tile-row y Y =
-      let r : suc (y / q.tile_height) ≤ q.tiles_y = omega (arith, s.down, tile-within q.height q.tile_height y s.tile_height Y) in
+  pub tile_row : (y : ℕ) → y < q.height → y / q.tile_height * q.tiles_x + q.tiles_x ≤ q.tiles_x * q.tiles_y
+  tile_row y Y =
+      let r : suc (y / q.tile_height) ≤ q.tiles_y = omega (arith, s.down, tile_within q.height q.tile_height y s.tile_height Y) in
       omega (arith, mul-le-mul_right q.tiles_x r, suc-mul (y / q.tile_height) q.tiles_x, mul_comm q.tiles_x q.tiles_y)
 
-  pub tile-column : (x : ℕ) → x < q.width → x / q.tile_width < q.tiles_x
-  tile-column x X = omega (arith, s.across, tile-within q.width q.tile_width x s.tile_width X)
+  pub tile_column : (x : ℕ) → x < q.width → x / q.tile_width < q.tiles_x
+  tile_column x X = omega (arith, s.across, tile_within q.width q.tile_width x s.tile_width X)
 
 -- an accepted query has a sound grid, a buffer that holds its tiles, and a place inside the picture
 pub record Asked (q : TileThresholdGrid) (len : ℕ) (inside : Bool) : Type 0 where
@@ -109,8 +109,8 @@ both : (a b : Bool) → (a && b) ≡ true → (a ≡ true) × (b ≡ true)
 both true b e = (refl, e)
 both false b e = let z : ◌≡◌ {A = ℕ} 0 1 = cc in absurd (omega arith)
 
-pub inside-pixel : {q : TileThresholdGrid} {len x y : ℕ} → Asked q len (ltb x q.width && ltb y q.height) → (x < q.width) × (y < q.height)
-inside-pixel {q} {len} {x} {y} a = let b = both (ltb x q.width) (ltb y q.height) a.there in (ltb-true _ _ b.0, ltb-true _ _ b.1)
+pub inside_pixel : {q : TileThresholdGrid} {len x y : ℕ} → Asked q len (ltb x q.width && ltb y q.height) → (x < q.width) × (y < q.height)
+inside_pixel {q} {len} {x} {y} a = let b = both (ltb x q.width) (ltb y q.height) a.there in (ltb-true _ _ b.0, ltb-true _ _ b.1)
 
 -- a place that was handed out
 module _ (c : Check) (n i : ℕ) where
@@ -124,24 +124,24 @@ module _ (c : Check) (n i : ℕ) where
       go Accepted e = (refl, same e)
       go (Refused x) e = let z : ◌≡◌ {A = ℕ} 0 1 = cc in absurd (omega arith)
 
-pub pixel-within : (q : TileThresholdGrid) (len x y i : ℕ) → pixel_place q len x y ≡ At i → i < len
-pixel-within q len x y i e =
+pub pixel_within : (q : TileThresholdGrid) (len x y i : ℕ) → pixel_place q len x y ≡ At i → i < len
+pixel_within q len x y i e =
     let p = placed (first (pixel_conditions q len x y)) (tile_of q x y) i e in
     let a = asked q len (ltb x q.width && ltb y q.height) p.0 in
-    let t = inside-pixel {q = q} {len = len} {x = x} {y = y} a in omega (arith, p.1, a.room, tile-row a.grid y t.1, tile-column a.grid x t.0)
+    let t = inside_pixel {q = q} {len = len} {x = x} {y = y} a in omega (arith, p.1, a.room, tile_row a.grid y t.1, tile_column a.grid x t.0)
 
 pub row_within : (q : TileThresholdGrid) (len y i : ℕ) → row_place q len y ≡ At i → i + q.tiles_x ≤ len
 row_within q len y i e =
     let p = placed (first (row_conditions q len y)) (tile_row_of q y) i e in
-    let a = asked q len (ltb y q.height) p.0 in omega (arith, p.1, a.room, tile-row a.grid y (ltb-true _ _ a.there))
+    let a = asked q len (ltb y q.height) p.0 in omega (arith, p.1, a.room, tile_row a.grid y (ltb-true _ _ a.there))
 
 -- the ways out of a query for a place
 module _ {c k : Check} (n : ℕ) (p : k ≡ c) where
-  pub place-refused : {e : ImgProcError} → k ≡ Refused e → TilePlace-as-Refused e ≡ place_by c n
-  place-refused q = ap (λ (x : Check). place_by x n) (sym q ∙ p)
+  pub place_refused : {e : ImgProcError} → k ≡ Refused e → TilePlace-as-Refused e ≡ place_by c n
+  place_refused q = ap (λ (x : Check). place_by x n) (sym q ∙ p)
 
-  pub place-there : k ≡ Accepted → At n ≡ place_by c n
-  place-there q = ap (λ (x : Check). place_by x n) (sym q ∙ p)
+  pub place_there : k ≡ Accepted → At n ≡ place_by c n
+  place_there q = ap (λ (x : Check). place_by x n) (sym q ∙ p)
 
 -- an answer by the place: a refusal is passed on
 module _ {A : Type 0} (c : Check) (n : ℕ) {p : TilePlace} (is : p ≡ place_by c n) where

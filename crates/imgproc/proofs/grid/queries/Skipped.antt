@@ -19,9 +19,9 @@ pub one_more : (d : List ℕ) (at i : ℕ) → all_skipped d at i ≡ true → (
 unfolding all_skipped
 one_more d at i e n = ap (all_skipped d at) (add-one i) ∙ simp (e, ne_eqb (get_or d (at + i) 0) 0 n)
 
-no-right : (a : Bool) → (a && false) ≡ false
-no-right true = refl
-no-right false = refl
+no_right : (a : Bool) → (a && false) ≡ false
+no_right true = refl
+no_right false = refl
 
 no_left : (a b : Bool) → a ≡ false → (a && b) ≡ false
 no_left a b e = ap (λ (k : Bool). k && b) e
@@ -35,6 +35,6 @@ broken d at (suc n) i h z =
     (λ (e : i ≡ n).
     let k : get_or d (at + n) 0 ≡ 0 = ap (λ (j : ℕ). get_or d (at + j) 0) (sym e) ∙ z in
     let s : skipped d (at + n) ≡ false = simp (eq-eqb (get_or d (at + n) 0) 0 k) in
-    sym (ap (λ (q : Bool). all_skipped d at n && q) s ∙ no-right (all_skipped d at n)))
+    sym (ap (λ (q : Bool). all_skipped d at n && q) s ∙ no_right (all_skipped d at n)))
     (λ (l : i < n). sym (no_left (all_skipped d at n) (skipped d (at + n)) (sym (broken d at n i l z))))
     (eq-or-lt_of_le {n = i} {m = n} (omega arith))

@@ -5,7 +5,7 @@ use native.Mathlib.Nat.{mod-lt, div-lt_iff_lt-mul, mul_comm}
 use native.Mathlib.Omega.{arith}
 use Rattle.imgproc.specs.declared.grid.config.TileThresholdConfig.{TileThresholdConfig}
 use Rattle.imgproc.specs.Grid.{tiles_x_of, tiles_y_of, tiles_limit}
-use Rattle.imgproc.specs.GridLaws.{ceiling-some, tiles-small}
+use Rattle.imgproc.specs.GridLaws.{ceiling_some, tiles_small}
 use Rattle.imgproc.specs.Tiles.{Sized}
 
 module _ {g : TileThresholdConfig} {w h : ℕ} (z : Sized g w h) {tx ty : ℕ} (X : tx ≡ tiles_x_of g w) (Y : ty ≡ tiles_y_of g h) where
@@ -13,10 +13,10 @@ module _ {g : TileThresholdConfig} {w h : ℕ} (z : Sized g w h) {tx ty : ℕ} (
   total = ap₂ ◌*◌ X Y
 
   pub some : 0 < tx
-  some = omega (arith, ceiling-some w g.tile_width z.tile_width z.wide)
+  some = omega (arith, ceiling_some w g.tile_width z.tile_width z.wide)
 
   pub few : tx * ty ≤ tiles_limit
-  few = tiles-small X Y z.tile_width z.tile_height z.small_width z.small_height
+  few = tiles_small X Y z.tile_width z.tile_height z.small_width z.small_height
 
   -- the tile with number t
   pub column : (t : ℕ) → t % tx < tiles_x_of g w

@@ -26,10 +26,10 @@ module _ (op : ℕ → ℕ → ℕ) where
   unfolding fold_over
   fold_same f g a b t e = from_same f g a (b - a) (λ i p q. e i p (omega arith))
 
-  pub box-same : (f g : ℕ → ℕ → ℕ) (b : Box) → b.left ≤ b.right → b.top ≤ b.bottom → ((x y : ℕ) → x ≤ b.right → y ≤ b.bottom → f x y ≡ g x y)
+  pub box_same : (f g : ℕ → ℕ → ℕ) (b : Box) → b.left ≤ b.right → b.top ≤ b.bottom → ((x y : ℕ) → x ≤ b.right → y ≤ b.bottom → f x y ≡ g x y)
       → fold_box op f b ≡ fold_box op g b
   unfolding fold_box
-  box-same f g b s t e =
+  box_same f g b s t e =
       fold_same _ _ b.top b.bottom t (λ y p q. fold_same (λ x. f x y) (λ x. g x y) b.left b.right s (λ x u v. e x y v q))
 
 -- two neighbouring ranges
@@ -67,17 +67,17 @@ module _ (op : ℕ → ℕ → ℕ) (j : Joining op) where
       ∙ four (fold_from op f a n) (fold_from op g a n) (f (a + suc n)) (g (a + suc n))
 
   -- two boxes, one below the other, and one beside the other
-  pub box-below : (f : ℕ → ℕ → ℕ) (l r t m b : ℕ) → t ≤ m → m < b
+  pub box_below : (f : ℕ → ℕ → ℕ) (l r t m b : ℕ) → t ≤ m → m < b
       → fold_box op f (record { left = l; right = r; top = t; bottom = b })
       ≡ op (fold_box op f (record { left = l; right = r; top = t; bottom = m })) (fold_box op f (record { left = l; right = r; top = m + 1; bottom = b }))
   unfolding fold_box
-  box-below f l r t m b p q = fold_split (λ y. fold_over op (λ x. f x y) l r) t m b p q
+  box_below f l r t m b p q = fold_split (λ y. fold_over op (λ x. f x y) l r) t m b p q
 
-  pub box-beside : (f : ℕ → ℕ → ℕ) (l m r t b : ℕ) → l ≤ m → m < r → t ≤ b
+  pub box_beside : (f : ℕ → ℕ → ℕ) (l m r t b : ℕ) → l ≤ m → m < r → t ≤ b
       → fold_box op f (record { left = l; right = r; top = t; bottom = b })
       ≡ op (fold_box op f (record { left = l; right = m; top = t; bottom = b })) (fold_box op f (record { left = m + 1; right = r; top = t; bottom = b }))
   unfolding fold_box fold_over
-  box-beside f l m r t b p q s =
+  box_beside f l m r t b p q s =
       from_same op _ (λ y. op (fold_over op (λ x. f x y) l m) (fold_over op (λ x. f x y) (m + 1) r)) t (b - t) (λ y u v. fold_split (λ x. f x y) l m r p q)
       ∙ from_pairs (λ y. fold_over op (λ x. f x y) l m) (λ y. fold_over op (λ x. f x y) (m + 1) r) t (b - t)
 
@@ -105,13 +105,13 @@ module _ (op : ℕ → ℕ → ℕ) (e : ℕ) (f : ℕ → ℕ) (a : ℕ) where
   from_running h (suc n) = ap (λ (x : ℕ). op x (f (a + suc n))) (from_running h n)
 
   -- where e changes nothing, that is the fold
-  pub running-all : op e (f a) ≡ f a → (i b : ℕ) → b ≤ i → i ≤ b → a < b → running op e f a (i - a) ≡ fold_over op f a (b - 1)
+  pub running_all : op e (f a) ≡ f a → (i b : ℕ) → b ≤ i → i ≤ b → a < b → running op e f a (i - a) ≡ fold_over op f a (b - 1)
   unfolding fold_over
-  running-all h i b p q t = let n : i - a ≡ suc (b - 1 - a) = omega arith in ap (running op e f a) n ∙ from_running h (b - 1 - a)
+  running_all h i b p q t = let n : i - a ≡ suc (b - 1 - a) = omega arith in ap (running op e f a) n ∙ from_running h (b - 1 - a)
 
 -- ---- how large
 
-pub running-small : (K : ℕ) (f : ℕ → ℕ) (a : ℕ) → ((i : ℕ) → f i ≤ K) → (n : ℕ) → running ◌+◌ 0 f a n ≤ n * K
+pub running_small : (K : ℕ) (f : ℕ → ℕ) (a : ℕ) → ((i : ℕ) → f i ≤ K) → (n : ℕ) → running ◌+◌ 0 f a n ≤ n * K
 unfolding running
-running-small K f a s zero = omega arith
-running-small K f a s (suc n) = omega (arith, running-small K f a s n, s (a + n), native.Mathlib.Nat.suc-mul n K)
+running_small K f a s zero = omega arith
+running_small K f a s (suc n) = omega (arith, running_small K f a s n, s (a + n), native.Mathlib.Nat.suc-mul n K)

@@ -16,8 +16,8 @@ use Rattle.imgproc.specs.Tiles.{numbers_in, tile, entry, Stores, GatherLent, Gat
 use Rattle.imgproc.proofs.grid.tiles.Numbers.{same}
 
 -- entries that hold the same five numbers
-entry-same : (a b : List ℕ) (at : ℕ) → ((i : ℕ) → at ≤ i → i < at + 5 → get_or a i 0 ≡ get_or b i 0) → entry a at ≡ entry b at
-entry-same a b at e =
+entry_same : (a b : List ℕ) (at : ℕ) → ((i : ℕ) → at ≤ i → i < at + 5 → get_or a i 0 ≡ get_or b i 0) → entry a at ≡ entry b at
+entry_same a b at e =
     same _ _
     (e at (omega arith) (omega arith))
     (e (at + 1) (omega arith) (omega arith))
@@ -46,7 +46,7 @@ stored_more n at t ws a b v s e p = record {
   long = p.long ∙ s.long;
   each = λ k h. ⊎_elim
       (λ (q : k ≡ t). ap (λ (i : ℕ). entry b (at + 5 * i)) q ∙ p.here ∙ e ∙ ap n (sym q))
-      (λ (q : k < t). entry-same b a (at + 5 * k) (λ i u w. p.before_it i (omega arith)) ∙ s.each k q)
+      (λ (q : k < t). entry_same b a (at + 5 * k) (λ i u w. p.before_it i (omega arith)) ∙ s.each k q)
       (eq-or-lt_of_le {n = k} {m = t} (omega arith));
   before_it = λ i h. p.before_it i (omega arith) ∙ s.before_it i h;
   after_it = λ i h. p.after_it i (omega arith) ∙ s.after_it i (omega arith);

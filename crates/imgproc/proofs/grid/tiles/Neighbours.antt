@@ -10,7 +10,7 @@ use Rattle.imgproc.specs.Fold.{Box}
 use Rattle.imgproc.specs.Extremes.{Some, lowest, highest, fold_box_extreme}
 use Rattle.imgproc.specs.Reach.{low, high, ceiling}
 use Rattle.imgproc.specs.Grid.{tiles_x_of, tiles_y_of, tile_from, tile_to, around}
-use Rattle.imgproc.specs.GridLaws.{tile_starts, ceiling-small, around-some}
+use Rattle.imgproc.specs.GridLaws.{tile_starts, ceiling_small, around_some}
 use Rattle.imgproc.specs.Tiles.{Sized, numbers_in, joined, join_from, join_over, tile_entry, Gathered, Small, SmallGrid, Proper, joined_around}
 use Rattle.imgproc.proofs.grid.tiles.Numbers.{below, beside, small}
 
@@ -18,19 +18,19 @@ use Rattle.imgproc.proofs.grid.tiles.Numbers.{below, beside, small}
 
 module _ (n t : ℕ) (T : 0 < t) where
   -- a tile has a sample
-  pub tile-some : (i : ℕ) → i < ceiling n t → tile_from t i ≤ tile_to t n i
-  tile-some i I = omega (arith, tile_starts n t i T I)
+  pub tile_some : (i : ℕ) → i < ceiling n t → tile_from t i ≤ tile_to t n i
+  tile_some i I = omega (arith, tile_starts n t i T I)
 
   -- the next tile starts after it
   tiles_meet : (i : ℕ) → suc i < ceiling n t → tile_to t n i + 1 ≡ tile_from t (suc i)
   tiles_meet i I = omega (arith, tile_starts n t (suc i) T I, suc-mul i t)
 
   -- tiles a..i start before they end, and end before the next does
-  tiles-some : (a i : ℕ) → a ≤ i → i < ceiling n t → tile_from t a ≤ tile_to t n i
-  tiles-some a i h I = le_trans (mul-le-mul_right t h) (tile-some i I)
+  tiles_some : (a i : ℕ) → a ≤ i → i < ceiling n t → tile_from t a ≤ tile_to t n i
+  tiles_some a i h I = le_trans (mul-le-mul_right t h) (tile_some i I)
 
-  tiles-grow : (i : ℕ) → suc i < ceiling n t → tile_to t n i < tile_to t n (suc i)
-  tiles-grow i I = omega (arith, tile_starts n t (suc i) T I, suc-mul i t)
+  tiles_grow : (i : ℕ) → suc i < ceiling n t → tile_to t n i < tile_to t n (suc i)
+  tiles_grow i I = omega (arith, tile_starts n t (suc i) T I, suc-mul i t)
 
 module _ (f : ℕ → ℕ → ℕ) (g : TileThresholdConfig) (w h at : ℕ) (ws : List ℕ) (z : Sized g w h) (G : Gathered f g w h at ws) where
   -- the pixels of the tiles a..i of the tile rows b..j
@@ -63,9 +63,9 @@ module _ (f : ℕ → ℕ → ℕ) (g : TileThresholdConfig) (w h at : ℕ) (ws 
       (sym (tiles_meet w g.tile_width z.tile_width (a + k) S)))
       ∙ sym
       (beside f (tile_from g.tile_width a) m (tile_to g.tile_width w (suc (a + k))) (tile_from g.tile_height j) (tile_to g.tile_height h j)
-      (tiles-some w g.tile_width z.tile_width a (a + k) (omega arith) (omega arith))
-      (tiles-grow w g.tile_width z.tile_width (a + k) S)
-      (tile-some h g.tile_height z.tile_height j J))
+      (tiles_some w g.tile_width z.tile_width a (a + k) (omega arith) (omega arith))
+      (tiles_grow w g.tile_width z.tile_width (a + k) S)
+      (tile_some h g.tile_height z.tile_height j J))
       ∙ ap (λ (i : ℕ). numbers_in f (tiles_box a i j j)) (sym e)
 
   row_is : (a i j : ℕ) → a ≤ i → i < tiles_x_of g w → j < tiles_y_of g h → join_over (λ k. tile_entry at (tiles_x_of g w) ws k j) a i ≡ numbers_in f (tiles_box a i j j)
@@ -95,8 +95,8 @@ module _ (f : ℕ → ℕ → ℕ) (g : TileThresholdConfig) (w h at : ℕ) (ws 
       (sym (tiles_meet h g.tile_height z.tile_height (b + k) S)))
       ∙ sym
       (below f (tile_from g.tile_width a) (tile_to g.tile_width w i) (tile_from g.tile_height b) m (tile_to g.tile_height h (suc (b + k)))
-      (tiles-some h g.tile_height z.tile_height b (b + k) (omega arith) (omega arith))
-      (tiles-grow h g.tile_height z.tile_height (b + k) S))
+      (tiles_some h g.tile_height z.tile_height b (b + k) (omega arith) (omega arith))
+      (tiles_grow h g.tile_height z.tile_height (b + k) S))
       ∙ ap (λ (j : ℕ). numbers_in f (tiles_box a i b j)) (sym e)
 
   rows_are : (a i b j : ℕ) → a ≤ i → i < tiles_x_of g w → b ≤ j → j < tiles_y_of g h
@@ -107,37 +107,37 @@ module _ (f : ℕ → ℕ → ℕ) (g : TileThresholdConfig) (w h at : ℕ) (ws 
 
   module _ (i j : ℕ) (I : i < tiles_x_of g w) (J : j < tiles_y_of g h) where
     -- the neighbourhood of a tile
-    pub around-joined : joined_around g.neighborhood_radius (tiles_x_of g w) (tiles_y_of g h) at ws i j ≡ numbers_in f (around g w h i j)
-    around-joined =
+    pub around_joined : joined_around g.neighborhood_radius (tiles_x_of g w) (tiles_y_of g h) at ws i j ≡ numbers_in f (around g w h i j)
+    around_joined =
         let r = g.neighborhood_radius in
         rows_are (low r i) (high r (tiles_x_of g w) i) (low r j) (high r (tiles_y_of g h) j) (omega arith) (omega arith) (omega arith) (omega arith)
 
     abbrev here : Box
     here = around g w h i j
 
-    pub some-around : Some here
-    some-around = around-some g w h i j z.tile_width z.tile_height I J
+    pub some_around : Some here
+    some_around = around_some g w h i j z.tile_width z.tile_height I J
 
     pub around_proper : Proper (numbers_in f here)
     around_proper =
-        let m = fold_box_extreme lowest f here some-around in
-        let M = fold_box_extreme highest f here some-around in
+        let m = fold_box_extreme lowest f here some_around in
+        let M = fold_box_extreme highest f here some_around in
         record {
-          small = small f G.bytes here some-around (omega (arith, z.small_width)) (omega (arith, z.small_height));
+          small = small f G.bytes here some_around (omega (arith, z.small_width)) (omega (arith, z.small_height));
           ordered = subst (λ (v : ℕ). (numbers_in f here).minimum ≤ v) M.is (m.bound M.at M.within);
         }
 
-  pub small-grid : SmallGrid at (tiles_x_of g w) (tiles_y_of g h) ws
-  small-grid = record {
+  pub small_grid : SmallGrid at (tiles_x_of g w) (tiles_y_of g h) ws
+  small_grid = record {
     room = G.room;
     each = λ a b c d A B C D.
         subst Small (sym (rows_are a b c d A B C D))
         (small f G.bytes (tiles_box a b c d)
         (record {
-          across = tiles-some w g.tile_width z.tile_width a b A B;
-          down = tiles-some h g.tile_height z.tile_height c d C D;
+          across = tiles_some w g.tile_width z.tile_width a b A B;
+          down = tiles_some h g.tile_height z.tile_height c d C D;
         })
         (omega (arith, z.small_width))
         (omega (arith, z.small_height)));
-    down = omega (arith, ceiling-small h g.tile_height z.tile_height, z.small_height);
+    down = omega (arith, ceiling_small h g.tile_height z.tile_height, z.small_height);
   }

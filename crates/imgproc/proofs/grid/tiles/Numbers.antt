@@ -13,13 +13,13 @@ use Rattle.imgproc.proofs.grid.tiles.Folds.{
   running,
   running_none,
   running_more,
-  running-all,
-  running-small,
+  running_all,
+  running_small,
   fold_one,
   fold_same,
-  box-below,
-  box-beside,
-  box-same,
+  box_below,
+  box_beside,
+  box_same,
 }
 
 -- numbers are equal field by field
@@ -37,9 +37,9 @@ unfolding fold_from
 count_from a zero = refl
 count_from a (suc n) = omega (arith, count_from a n)
 
-line-count : (a b : ℕ) → a ≤ b → fold_over ◌+◌ (λ i. 1) a b ≡ suc (b - a)
+line_count : (a b : ℕ) → a ≤ b → fold_over ◌+◌ (λ i. 1) a b ≡ suc (b - a)
 unfolding fold_over
-line-count a b t = count_from a (b - a)
+line_count a b t = count_from a (b - a)
 
 -- ---- a row while it is scanned
 
@@ -71,22 +71,22 @@ module _ {f : ℕ → ℕ} {left x m M s q : ℕ} (c : Scanned f left x m M s q)
     square : (k : ℕ) → f k * f k ≤ 65025
     square k = let a : f k ≤ 255 = omega (arith, bytes k) in mul-le-mul a a
 
-    pub sum-small : s ≤ (x - left) * 255
-    sum-small = omega (arith, c.sum, running-small 255 f left (λ k. omega (arith, bytes k)) (x - left))
+    pub sum_small : s ≤ (x - left) * 255
+    sum_small = omega (arith, c.sum, running_small 255 f left (λ k. omega (arith, bytes k)) (x - left))
 
     pub sum_sq_small : q ≤ (x - left) * 65025
-    sum_sq_small = omega (arith, c.sum_sq, running-small 65025 (λ k. f k * f k) left square (x - left))
+    sum_sq_small = omega (arith, c.sum_sq, running_small 65025 (λ k. f k * f k) left square (x - left))
 
     -- at the end of the row they are the row's
     pub scanned_all : (right : ℕ) → right ≤ x → x ≤ right → left < right
         → record { minimum = m; maximum = M; sum = s; sum_sq = q; count = right - left } ≡ line_numbers f left (right - 1)
     scanned_all right p r l =
         same _ _
-        (c.minimum ∙ running-all min 255 f left (omega (arith, bytes left)) x right p r l)
-        (c.maximum ∙ running-all max 0 f left (omega arith) x right p r l)
-        (c.sum ∙ running-all ◌+◌ 0 f left (omega arith) x right p r l)
-        (c.sum_sq ∙ running-all ◌+◌ 0 (λ k. f k * f k) left (omega arith) x right p r l)
-        (omega (arith, line-count left (right - 1) (omega arith)))
+        (c.minimum ∙ running_all min 255 f left (omega (arith, bytes left)) x right p r l)
+        (c.maximum ∙ running_all max 0 f left (omega arith) x right p r l)
+        (c.sum ∙ running_all ◌+◌ 0 f left (omega arith) x right p r l)
+        (c.sum_sq ∙ running_all ◌+◌ 0 (λ k. f k * f k) left (omega arith) x right p r l)
+        (omega (arith, line_count left (right - 1) (omega arith)))
 
 -- ---- neighbouring boxes
 
@@ -125,31 +125,31 @@ pub below : (f : ℕ → ℕ → ℕ) (l r t m b : ℕ) → t ≤ m → m < b
     ≡ joined (numbers_in f (record { left = l; right = r; top = t; bottom = m })) (numbers_in f (record { left = l; right = r; top = m + 1; bottom = b }))
 below f l r t m b p q =
     same _ _
-    (box-below min least_joins f l r t m b p q)
-    (box-below max most_joins f l r t m b p q)
-    (box-below ◌+◌ sums_join f l r t m b p q)
-    (box-below ◌+◌ sums_join (λ x y. f x y * f x y) l r t m b p q)
-    (box-below ◌+◌ sums_join (λ x y. 1) l r t m b p q)
+    (box_below min least_joins f l r t m b p q)
+    (box_below max most_joins f l r t m b p q)
+    (box_below ◌+◌ sums_join f l r t m b p q)
+    (box_below ◌+◌ sums_join (λ x y. f x y * f x y) l r t m b p q)
+    (box_below ◌+◌ sums_join (λ x y. 1) l r t m b p q)
 
 pub beside : (f : ℕ → ℕ → ℕ) (l m r t b : ℕ) → l ≤ m → m < r → t ≤ b
     → numbers_in f (record { left = l; right = r; top = t; bottom = b })
     ≡ joined (numbers_in f (record { left = l; right = m; top = t; bottom = b })) (numbers_in f (record { left = m + 1; right = r; top = t; bottom = b }))
 beside f l m r t b p q s =
     same _ _
-    (box-beside min least_joins f l m r t b p q s)
-    (box-beside max most_joins f l m r t b p q s)
-    (box-beside ◌+◌ sums_join f l m r t b p q s)
-    (box-beside ◌+◌ sums_join (λ x y. f x y * f x y) l m r t b p q s)
-    (box-beside ◌+◌ sums_join (λ x y. 1) l m r t b p q s)
+    (box_beside min least_joins f l m r t b p q s)
+    (box_beside max most_joins f l m r t b p q s)
+    (box_beside ◌+◌ sums_join f l m r t b p q s)
+    (box_beside ◌+◌ sums_join (λ x y. f x y * f x y) l m r t b p q s)
+    (box_beside ◌+◌ sums_join (λ x y. 1) l m r t b p q s)
 
 -- pictures that agree in a box
 pub same_in : (f g : ℕ → ℕ → ℕ) (b : Box) → Some b → ((x y : ℕ) → x ≤ b.right → y ≤ b.bottom → f x y ≡ g x y) → numbers_in f b ≡ numbers_in g b
 same_in f g b s e =
     same _ _
-    (box-same min f g b s.across s.down e)
-    (box-same max f g b s.across s.down e)
-    (box-same ◌+◌ f g b s.across s.down e)
-    (box-same ◌+◌ (λ x y. f x y * f x y) (λ x y. g x y * g x y) b s.across s.down (λ x y u v. ap (λ (k : ℕ). k * k) (e x y u v)))
+    (box_same min f g b s.across s.down e)
+    (box_same max f g b s.across s.down e)
+    (box_same ◌+◌ f g b s.across s.down e)
+    (box_same ◌+◌ (λ x y. f x y * f x y) (λ x y. g x y * g x y) b s.across s.down (λ x y u v. ap (λ (k : ℕ). k * k) (e x y u v)))
     refl
 
 -- ---- how large
@@ -159,10 +159,10 @@ unfolding fold_from
 from_small K f s a zero = omega (arith, s a)
 from_small K f s a (suc n) = omega (arith, from_small K f s a n, s (a + suc n))
 
-box-small : (K : ℕ) (f : ℕ → ℕ → ℕ) → ((x y : ℕ) → f x y ≤ K) → (b : Box) → b.right < b.left + side_limit → b.bottom < b.top + side_limit
+box_small : (K : ℕ) (f : ℕ → ℕ → ℕ) → ((x y : ℕ) → f x y ≤ K) → (b : Box) → b.right < b.left + side_limit → b.bottom < b.top + side_limit
     → fold_box ◌+◌ f b ≤ side_limit * (side_limit * K)
 unfolding fold_box fold_over
-box-small K f s b p q =
+box_small K f s b p q =
     let row : (y : ℕ) → fold_from ◌+◌ (λ x. f x y) b.left (b.right - b.left) ≤ side_limit * K = λ y.
     le_trans (from_small K (λ x. f x y) (λ x. s x y) b.left (b.right - b.left)) (mul-le-mul_right K (omega arith)) in
     le_trans (from_small (side_limit * K) _ row b.top (b.bottom - b.top)) (mul-le-mul_right (side_limit * K) (omega arith))
@@ -176,7 +176,7 @@ small f bytes b s p q =
     record {
       minimum = subst (λ (v : ℕ). v < 256) m.is (bytes m.at.0 m.at.1);
       maximum = subst (λ (v : ℕ). v < 256) M.is (bytes M.at.0 M.at.1);
-      sum = box-small 255 f (λ x y. omega (arith, bytes x y)) b p q;
-      sum_sq = box-small 65025 (λ x y. f x y * f x y) (λ x y. let a : f x y ≤ 255 = omega (arith, bytes x y) in mul-le-mul a a) b p q;
-      count = box-small 1 (λ x y. 1) (λ x y. omega arith) b p q;
+      sum = box_small 255 f (λ x y. omega (arith, bytes x y)) b p q;
+      sum_sq = box_small 65025 (λ x y. f x y * f x y) (λ x y. let a : f x y ≤ 255 = omega (arith, bytes x y) in mul-le-mul a a) b p q;
+      count = box_small 1 (λ x y. 1) (λ x y. omega arith) b p q;
     }

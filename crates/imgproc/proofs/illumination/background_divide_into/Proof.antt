@@ -7,11 +7,11 @@ use lib.Dec.{ltb}
 use lib.ListN.{length}
 use Rattle.image.specs.LayoutLaws.{area_small}
 use Rattle.imgproc.specs.Refusals.{refused_if, division_settings}
-use Rattle.imgproc.specs.RefusalLaws.{then_accepted, division-says}
+use Rattle.imgproc.specs.RefusalLaws.{then_accepted, division_says}
 use Rattle.imgproc.specs.declared.ImgProcError.TheVariants.{Image, DimensionMismatch, WorkspaceTooSmall}
-use Rattle.imgproc.proofs.WaysOut.{Pair, pair_of, paired, source-kept, ways}
+use Rattle.imgproc.proofs.WaysOut.{Pair, pair_of, paired, source_kept, ways}
 use Rattle.imgproc.proofs.Serving.{refused_call, worked}
-use Rattle.imgproc.proofs.morphology.Ways.{room-short, room-enough}
+use Rattle.imgproc.proofs.morphology.Ways.{room_short, room_enough}
 use Rattle.imgproc.proofs.illumination.background_divide_into.Statement.{statement}
 use Rattle.imgproc.proofs.illumination.background_divide_into.Tie as tie
 
@@ -81,13 +81,13 @@ enum-told-3 : tie.Need-enum-told-3
 enum-told-3 c = search rules
 
 mul-if3 : tie.Need-overflow-mul-if3
-mul-if3 c = omega (arith, area_small (source-kept (pair c.before.before.before.before)))
+mul-if3 c = omega (arith, area_small (source_kept (pair c.before.before.before.before)))
 
 mul-if3-2 : tie.Need-overflow-mul-if3-2
-mul-if3-2 c = omega (arith, area_small (source-kept (pair c.before.before.before.before)))
+mul-if3-2 c = omega (arith, area_small (source_kept (pair c.before.before.before.before)))
 
 returns-6 : tie.Need-returns-6
-returns-6 c = refused_call WorkspaceTooSmall (search (ways, room-short))
+returns-6 c = refused_call WorkspaceTooSmall (search (ways, room_short))
 
 divide-picture-requires : tie.Need-divide-picture-requires
 divide-picture-requires c κs =
@@ -95,7 +95,7 @@ divide-picture-requires c κs =
     let k = e.before.before in
     let s = k.before.before in
     let p = pair s.before in
-    let good = division-says (start s.before).args.config (sym s.check-settings.ensures ∙ k.enum-told3.given.1) in
+    let good = division_says (start s.before).args.config (sym s.check-settings.ensures ∙ k.enum-told3.given.1) in
     record {
       pair = paired p;
       kernel = omega (arith, good.0);
@@ -119,7 +119,7 @@ returns-7 c =
     let g = (first s.before).before.layout.given.0.0 in
     let room = refused_if (ltb (length a.workspace.now) (7 * (g.width * g.height))) WorkspaceTooSmall in
     worked (pair s.before)
-    (then_accepted (division_settings a.config) room (sym s.check-settings.ensures ∙ k.enum-told3.given.1) ∙ room-enough _ _ e.if3.false)
+    (then_accepted (division_settings a.config) room (sym s.check-settings.ensures ∙ k.enum-told3.given.1) ∙ room_enough _ _ e.if3.false)
     ran.divide-picture.ensures
 
 pub background-divide-into-spec : {M : Type 1} → statement M

@@ -1,5 +1,5 @@
 -- Each way out of the settings is one law. Assumes nothing.
-use Rattle.imgproc.proofs.illumination.Runs.{element_small, element_even, no-floor, settings_good}
+use Rattle.imgproc.proofs.illumination.Runs.{element_small, element_even, no_floor, settings_good}
 use Rattle.imgproc.proofs.illumination.check_settings.Statement.{statement}
 use Rattle.imgproc.proofs.illumination.check_settings.Tie as tie
 
@@ -12,7 +12,7 @@ returns_2 c = element_even c.before.before.before.before.args.config c.before.be
 returns-3 : tie.Need-returns-3
 returns-3 c =
     let past = c.before.before.before.before in
-    no-floor past.before.before.args.config past.if1.false c.before.before.if2.false c.if3.true
+    no_floor past.before.before.args.config past.if1.false c.before.before.if2.false c.if3.true
 
 returns-4 : tie.Need-returns-4
 returns-4 c =

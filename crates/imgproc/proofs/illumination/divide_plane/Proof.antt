@@ -5,7 +5,7 @@ use native.Mathlib.Omega.{arith}
 use lib.ListN.{get_or}
 use Rattle.imgproc.specs.Division.{quotient}
 use Rattle.imgproc.specs.Sweeps.{Rowed}
-use Rattle.imgproc.proofs.morphology.Lanes.{row_none, row_more, row_apart, row-all}
+use Rattle.imgproc.proofs.morphology.Lanes.{row_none, row_more, row_apart, row_all}
 use borrow.Author.Rules.{rules}
 use Rattle.imgproc.proofs.illumination.divide_plane.Statement.{statement}
 use Rattle.imgproc.proofs.illumination.divide_plane.Tie as tie
@@ -63,7 +63,7 @@ same_length : tie.Need-same-length invariant-loop decreases-loop
 same_length c = c.before.loop.invariant.1.rest.long
 
 returns : tie.Need-returns invariant-loop decreases-loop
-returns c = row-all c.before.loop.invariant.1 c.before.loop.invariant.0 c.loop-test.false
+returns c = row_all c.before.loop.invariant.1 c.before.loop.invariant.0 c.loop-test.false
 
 pub divide-plane-spec : {M : Type 1} → statement M
 divide-plane-spec =

@@ -5,9 +5,9 @@ use mathlib.Core.Path.{◌∙◌}
 use lib.ListN.{length}
 use Rattle.image.specs.LayoutLaws.{area_small}
 use Rattle.imgproc.specs.declared.ImgProcError.TheVariants.{Image, DimensionMismatch, InvalidKernel, WorkspaceTooSmall}
-use Rattle.imgproc.proofs.WaysOut.{Pair, pair_of, paired, source-kept, ways}
+use Rattle.imgproc.proofs.WaysOut.{Pair, pair_of, paired, source_kept, ways}
 use Rattle.imgproc.proofs.Serving.{refused_call, worked}
-use Rattle.imgproc.proofs.morphology.Ways.{kernel_good, room-enough, kernel-ways}
+use Rattle.imgproc.proofs.morphology.Ways.{kernel_good, room_enough, kernel-ways}
 use Rattle.imgproc.proofs.morphology.apply_into.Statement.{statement}
 use Rattle.imgproc.proofs.morphology.apply_into.Tie as tie
 
@@ -71,10 +71,10 @@ returns-6 : tie.Need-returns-6
 returns-6 c = refused_call InvalidKernel (search (ways, kernel-ways))
 
 mul-if5 : tie.Need-overflow-mul-if5
-mul-if5 c = omega (arith, area_small (source-kept (pair c.before.before.before)))
+mul-if5 c = omega (arith, area_small (source_kept (pair c.before.before.before)))
 
 mul-if5-2 : tie.Need-overflow-mul-if5-2
-mul-if5-2 c = omega (arith, area_small (source-kept (pair c.before.before.before)))
+mul-if5-2 c = omega (arith, area_small (source_kept (pair c.before.before.before)))
 
 returns-7 : tie.Need-returns-7
 returns-7 c = refused_call WorkspaceTooSmall (search (ways, kernel-ways))
@@ -101,7 +101,7 @@ returns-8 c =
     let ran = c.before.before.before.before in
     let e = ran.before.before.before in
     let odd = e.before.before in
-    worked (pair odd.before.before) (kernel_good _ _ odd.before.if3.false odd.if4.false ∙ room-enough _ _ e.if5.false)
+    worked (pair odd.before.before) (kernel_good _ _ odd.before.if3.false odd.if4.false ∙ room_enough _ _ e.if5.false)
     ran.run.ensures
 
 pub apply-into-spec : {M : Type 1} → statement M

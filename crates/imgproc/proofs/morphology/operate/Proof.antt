@@ -1,6 +1,6 @@
 -- `operate` meets its contract: each operation is its own sweeps. Assumes nothing.
 use native.Mathlib.Omega.{arith}
-use Rattle.imgproc.proofs.morphology.Runs.{once_ready, twice-ready}
+use Rattle.imgproc.proofs.morphology.Runs.{once_ready, twice_ready}
 use borrow.Author.Rules.{rules}
 use Rattle.imgproc.proofs.morphology.operate.Statement.{statement}
 use Rattle.imgproc.proofs.morphology.operate.Tie as tie
@@ -27,13 +27,13 @@ enum-told-3 : tie.Need-enum-told-3
 enum-told-3 c = search rules
 
 open-rect-into-requires : tie.Need-open-rect-into-requires
-open-rect-into-requires c κs = twice-ready c.before.before.before.before.requires
+open-rect-into-requires c κs = twice_ready c.before.before.before.before.requires
 
 enum-told-4 : tie.Need-enum-told-4
 enum-told-4 c = search rules
 
 close-rect-into-requires : tie.Need-close-rect-into-requires
-close-rect-into-requires c κs = twice-ready c.before.before.before.before.requires
+close-rect-into-requires c κs = twice_ready c.before.before.before.before.requires
 
 same_length : tie.Need-same-length
 same_length c = c.before.before.morph-rect-into.ensures.kept.long

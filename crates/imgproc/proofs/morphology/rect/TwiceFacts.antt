@@ -7,7 +7,7 @@ use lib.ListN.{length}
 use denote.Builtin.{u8}
 use denote.Slice.{Room}
 use Rattle.imgproc.specs.declared.morphology.tally.Tally.{Tally}
-use Rattle.imgproc.proofs.morphology.Planes.{columns_ready, morphed, again_ready, pair-morphed}
+use Rattle.imgproc.proofs.morphology.Planes.{columns_ready, morphed, again_ready, pair_morphed}
 use Rattle.imgproc.proofs.morphology.rect.Says.{Asks, RowsSay, ColumnsSay}
 use Rattle.imgproc.proofs.morphology.rect.TwiceNumbers.{Own, num_1, num_2, num_3, num_4, Asked, Done}
 
@@ -30,4 +30,4 @@ module _ (h₀ : Tally) (d : List ℕ) (x : Own) (ok : Asked h₀ d x) (room : R
         pub at_exit : (r4 : Tally) (d4 : List ℕ) → ColumnsSay r3 d3 (num_4 x) r4 d4 → length d4 ≡ length d3 → Done h₀ d x r4 d4
         at_exit r4 d4 e4 long4 =
             let half = morphed ok.once e1 e2 in
-            pair-morphed ok half (morphed (again_ready ok half) e3 e4)
+            pair_morphed ok half (morphed (again_ready ok half) e3 e4)

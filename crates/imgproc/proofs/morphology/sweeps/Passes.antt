@@ -13,7 +13,7 @@ use Rattle.imgproc.specs.Reach.{walk, forward_at, backward_at, join_at, low, hig
 use Rattle.imgproc.specs.Walks.{walk_le}
 use Rattle.imgproc.specs.declared.morphology.tally.Tally.{Tally}
 use Rattle.imgproc.specs.declared.morphology.sweeps.Planes.{Planes}
-use Rattle.imgproc.specs.Tallies.{Raised, HasRoom, raised_none, raised-twice, raised_as, room_left}
+use Rattle.imgproc.specs.Tallies.{Raised, HasRoom, raised_none, raised_twice, raised_as, room_left}
 use Rattle.imgproc.specs.Sweeps.{
   lane,
   Apart,
@@ -41,13 +41,13 @@ use Rattle.imgproc.proofs.morphology.sweeps.Blocks.{
   seen,
   order,
 }
-use Rattle.imgproc.proofs.morphology.Lanes.{off, apart_within, apart_swap, outside_at, line-order, line_before, Downward, down-more, Upward, up_more}
+use Rattle.imgproc.proofs.morphology.Lanes.{off, apart_within, apart_swap, outside_at, line_order, line_before, Downward, down_more, Upward, up_more}
 
 -- a sample of a plane apart from the one that was written is as it was
-pub plane-kept : {w h to : ℕ} {d a : List ℕ} (from x y j : ℕ) → Apart from (w * h) to (w * h) → Outside to (w * h) d a → x < w → y < h
+pub plane_kept : {w h to : ℕ} {d a : List ℕ} (from x y j : ℕ) → Apart from (w * h) to (w * h) → Outside to (w * h) d a → x < w → y < h
     → j ≡ from + (y * w + x) → get_or a j 0 ≡ lane d from w x y
-plane-kept {w} {h} {to} {d} {a} from x y j p o X Y e =
-    let b = line-order w y h Y in
+plane_kept {w} {h} {to} {d} {a} from x y j p o X Y e =
+    let b = line_order w y h Y in
     outside_at j o (off j p (omega arith) (omega arith)) ∙ ap (λ (n : ℕ). get_or d n 0) e
 
 module _ {R : ℕ → ℕ → Type 0} {op : ℕ → ℕ → ℕ} (o : Order R op) (k : ℕ) (pos : 0 < k)
@@ -59,8 +59,8 @@ module _ {R : ℕ → ℕ → Type 0} {op : ℕ → ℕ → ℕ} (o : Order R op
   pub forward_copy : {y at : ℕ} {c : Tally} {a a' : List ℕ} → ForwardDown y at a c → y < h → y % k ≡ 0
       → Rowed (to + at) w (λ (x : ℕ). get_or a (from + at + x) 0) a a' → ForwardDown (y + 1) (at + w) a' c
   forward_copy {y} {at} {a = a} s l z r =
-      down-more (λ (x : ℕ). get_or a (from + at + x) 0) s l r
-      (λ x m. rw (plane-kept from x y (from + at + x) apart s.lines.rest m l (omega (arith, s.here))) (forward_first o k pos (lane d from w x) y z))
+      down_more (λ (x : ℕ). get_or a (from + at + x) 0) s l r
+      (λ x m. rw (plane_kept from x y (from + at + x) apart s.lines.rest m l (omega (arith, s.here))) (forward_first o k pos (lane d from w x) y z))
       (raised_none (simp (eq-eqb _ _ z) (omega arith)))
 
   pub forward_meet : {y at : ℕ} {c c' : Tally} {a a' : List ℕ} → ForwardDown y at a c → y < h → (y % k ≡ 0 → ⊥)
@@ -68,9 +68,9 @@ module _ {R : ℕ → ℕ → Type 0} {op : ℕ → ℕ → ℕ} (o : Order R op
   forward_meet {y} {at} {a = a} s l nz r e =
       let p : 0 < y = after k y nz in
       let up = line_before w y p in
-      down-more (λ (x : ℕ). op (get_or a (to + (at - w) + x) 0) (get_or a (from + at + x) 0)) s l r
+      down_more (λ (x : ℕ). op (get_or a (to + (at - w) + x) 0) (get_or a (from + at + x) 0)) s l r
       (λ x m.
-      let here = plane-kept from x y (from + at + x) apart s.lines.rest m l (omega (arith, s.here)) in
+      let here = plane_kept from x y (from + at + x) apart s.lines.rest m l (omega (arith, s.here)) in
       let above : get_or a (to + (at - w) + x) 0 ≡ lane a to w x (y - 1) = ap (λ (n : ℕ). get_or a n 0) (omega (arith, s.here)) in
       rw (above, here) (forward_next o k pos (lane d from w x) y nz (s.lines.each x (y - 1) m (omega arith))))
       (raised_as e (simp (ne_eqb _ _ nz) (omega arith)))
@@ -85,7 +85,7 @@ module _ {R : ℕ → ℕ → Type 0} {op : ℕ → ℕ → ℕ} (o : Order R op
       let up = line_before w y l in
       up_more (λ (x : ℕ). get_or a (from + (at - w) + x) 0) s l r
       (λ x m.
-      rw (plane-kept from x (y - 1) (from + (at - w) + x) apart s.lines.rest m (omega (arith, s.inside)) (omega (arith, s.here)))
+      rw (plane_kept from x (y - 1) (from + (at - w) + x) apart s.lines.rest m (omega (arith, s.inside)) (omega (arith, s.here)))
       (backward_first o k pos (lane d from w x) h (y - 1) (omega (arith, s.inside)) z))
       (raised_none (rw (backward_none k h (y - 1) z) (omega arith)))
 
@@ -97,7 +97,7 @@ module _ {R : ℕ → ℕ → Type 0} {op : ℕ → ℕ → ℕ} (o : Order R op
       let same : (y - 1 + 1) * w ≡ y * w = ap (λ (n : ℕ). n * w) (omega arith) in
       up_more (λ (x : ℕ). op (get_or a (to + (at - w + w) + x) 0) (get_or a (from + (at - w) + x) 0)) s l r
       (λ x m.
-      let here = plane-kept from x (y - 1) (from + (at - w) + x) apart s.lines.rest m (omega (arith, s.inside)) (omega (arith, s.here)) in
+      let here = plane_kept from x (y - 1) (from + (at - w) + x) apart s.lines.rest m (omega (arith, s.inside)) (omega (arith, s.here)) in
       let next : get_or a (to + (at - w + w) + x) 0 ≡ lane a to w x (y - 1 + 1) = ap (λ (n : ℕ). get_or a n 0) (omega (arith, s.here)) in
       rw (next, here)
       (backward_next o k pos (lane d from w x) h (y - 1) (omega (arith, s.inside)) nk nh (s.lines.each x (y - 1 + 1) m (omega (arith, s.inside, nh)))))
@@ -109,14 +109,14 @@ module _ (op : ℕ → ℕ → ℕ) (k suffix prefix to w h : ℕ)
   abbrev pub JoinDown : ℕ → ℕ → List ℕ → Tally → Type 0
   JoinDown y at a c = Downward (λ (x : ℕ). Joins op k h (lane d suffix w x) (lane d prefix w x)) join_at to w h y at d a tally c
 
-  pub join-line : {y at lo hi : ℕ} {c c' : Tally} {a a' : List ℕ} → JoinDown y at a c → y < h → lo ≡ low (radius k) y → hi ≡ high (radius k) h y
+  pub join_line : {y at lo hi : ℕ} {c c' : Tally} {a a' : List ℕ} → JoinDown y at a c → y < h → lo ≡ low (radius k) y → hi ≡ high (radius k) h y
       → Rowed (to + at) w (λ (x : ℕ). op (get_or a (suffix + lo * w + x) 0) (get_or a (prefix + hi * w + x) 0)) a a'
       → Raised c w c' → JoinDown (y + 1) (at + w) a' c'
-  join-line {y} {lo = lo} {hi = hi} {a = a} s l p q r e =
-      down-more (λ (x : ℕ). op (get_or a (suffix + lo * w + x) 0) (get_or a (prefix + hi * w + x) 0)) s l r
+  join_line {y} {lo = lo} {hi = hi} {a = a} s l p q r e =
+      down_more (λ (x : ℕ). op (get_or a (suffix + lo * w + x) 0) (get_or a (prefix + hi * w + x) 0)) s l r
       (λ x m.
-      let back = plane-kept suffix x lo (suffix + lo * w + x) left s.lines.rest m (omega arith) (omega arith) in
-      let forth = plane-kept prefix x hi (prefix + hi * w + x) right s.lines.rest m (omega arith) (omega arith) in
+      let back = plane_kept suffix x lo (suffix + lo * w + x) left s.lines.rest m (omega arith) (omega arith) in
+      let forth = plane_kept prefix x hi (prefix + hi * w + x) right s.lines.rest m (omega arith) (omega arith) in
       ap₂ op back forth ∙ rw (p, q))
       (raised_as e (omega arith))
 
@@ -130,19 +130,19 @@ lines_swept {least} {k} {p} {d = d} {f = f} {g = g} pos apart forth back joined 
       (λ j l.
       seen
       (λ i s.
-      plane-kept p.from x i (p.from + (i * p.width + x))
+      plane_kept p.from x i (p.from + (i * p.width + x))
       (apart_within _ _ _ _ apart (omega arith) (omega arith) (omega arith) (omega arith))
       forth.rest
       X
       (omega arith)
       refl)
       (back.each x j X l))
-      (λ j l. rw (plane-kept p.spare x j (p.spare + (j * p.width + x)) (record { clear = inl (omega arith) }) back.rest X l refl) (forth.each x j X l))
+      (λ j l. rw (plane_kept p.spare x j (p.spare + (j * p.width + x)) (record { clear = inl (omega arith) }) back.rest X l refl) (forth.each x j X l))
       y
       (lane g p.to p.width x y)
       Y
       (joined.each x y X Y);
-  counted = raised-twice (raised-twice forth.counted back.counted refl) joined.counted (omega arith);
+  counted = raised_twice (raised_twice forth.counted back.counted refl) joined.counted (omega arith);
   kept = record {
     long = joined.rest.long ∙ back.rest.long ∙ forth.rest.long;
     same = λ j u q.
@@ -179,8 +179,8 @@ pass_again q long room = record {
 }
 
 -- after a pass there is room in the tally for what the plane's samples leave
-pub passed-room : {P : ℕ → ℕ → ℕ → Type 0} {test : ℕ → Bool} {t a : Tally} {d e : List ℕ} {to w h n l : ℕ}
+pub passed_room : {P : ℕ → ℕ → ℕ → Type 0} {test : ℕ → Bool} {t a : Tally} {d e : List ℕ} {to w h n l : ℕ}
     → HasRoom t n → Passed P test t d to w h a e → w * h + l ≤ n → HasRoom a l
-passed-room {test = test} {w = w} {h = h} room p e =
+passed_room {test = test} {w = w} {h = h} room p e =
     let b : walk test h * w ≤ h * w = mul-le-mul_right w (walk_le test h) in
     room_left room p.counted (omega arith)

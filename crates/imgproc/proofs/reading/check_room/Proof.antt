@@ -4,13 +4,13 @@ use native.Mathlib.Omega.{arith}
 use Prim.Native.Nat.{◌+◌, ◌*◌, ◌≤◌}
 use mathlib.Core.Path.{◌≡◌}
 use Rattle.image.specs.Layout.{area_limit}
-use Rattle.image.specs.LayoutLaws.{sides-small}
+use Rattle.image.specs.LayoutLaws.{sides_small}
 use Rattle.imgproc.specs.Grid.{tiles_limit}
 use Rattle.imgproc.specs.GridCalls.{tile_count}
-use Rattle.imgproc.specs.SauvolaLaws.{entries-small}
+use Rattle.imgproc.specs.SauvolaLaws.{entries_small}
 use Rattle.imgproc.specs.Tables.{entries_limit}
 use Rattle.imgproc.proofs.grid.tiles.Counts.{total, few}
-use Rattle.imgproc.proofs.reading.Ways.{bytes-short, u64s_short, room-enough}
+use Rattle.imgproc.proofs.reading.Ways.{bytes_short, u64s_short, room_enough}
 use Rattle.imgproc.proofs.reading.check_room.Statement.{statement}
 use Rattle.imgproc.proofs.reading.check_room.Tie as tie
 
@@ -27,10 +27,10 @@ tiles : (t : tie.After-tiles-along2) → t.before.tiles-along.result * t.tiles-a
 tiles t = few (start t).requires t.before.tiles-along.ensures t.tiles-along2.ensures
 
 area : (t : tie.After-tiles-along2) → (start t).args.geometry.width * (start t).args.geometry.height ≤ area_limit
-area t = sides-small _ _ (start t).requires.small_width (start t).requires.small_height
+area t = sides_small _ _ (start t).requires.small_width (start t).requires.small_height
 
 entries : (t : tie.After-tiles-along2) → ((start t).args.geometry.width + 1) * ((start t).args.geometry.height + 1) ≤ entries_limit
-entries t = entries-small _ _ (start t).requires.small_width (start t).requires.small_height
+entries t = entries_small _ _ (start t).requires.small_width (start t).requires.small_height
 
 tiles-along-requires : tie.Need-tiles-along-requires
 tiles-along-requires c κs = search rules
@@ -54,7 +54,7 @@ add-if1 : tie.Need-overflow-add-if1
 add-if1 t = omega (arith, tiles t, area t)
 
 returns : tie.Need-returns
-returns c = let t = c.before in bytes-short (start t).args.geometry (start t).args.config _ _ _ (count t) c.if1.true
+returns c = let t = c.before in bytes_short (start t).args.geometry (start t).args.config _ _ _ (count t) c.if1.true
 
 add-if2 : tie.Need-overflow-add-if2
 add-if2 c = search rules
@@ -78,7 +78,7 @@ returns_2 : tie.Need-returns-2
 returns_2 c = let t = c.before.before in u64s_short (start t).args.geometry (start t).args.config _ _ _ (count t) c.before.if1.false c.if2.true
 
 returns-3 : tie.Need-returns-3
-returns-3 c = let t = c.before.before in room-enough (start t).args.geometry (start t).args.config _ _ _ (count t) c.before.if1.false c.if2.false
+returns-3 c = let t = c.before.before in room_enough (start t).args.geometry (start t).args.config _ _ _ (count t) c.before.if1.false c.if2.false
 
 pub check-room-spec : {M : Type 1} → statement M
 check-room-spec =

@@ -8,7 +8,7 @@ use Rattle.imgproc.specs.Refusals.{Conditions, first, ◌then◌, refused_if, ba
 use Rattle.imgproc.specs.Reading.{reading_settings}
 use Rattle.imgproc.specs.GridCalls.{grid_settings}
 use Rattle.imgproc.specs.RefusalLaws.{then_refused, then_accepted}
-use Rattle.imgproc.proofs.morphology.Ways.{kernel-small, kernel-even, kernel_good}
+use Rattle.imgproc.proofs.morphology.Ways.{kernel_small, kernel_even, kernel_good}
 use Rattle.imgproc.proofs.reading.check_settings.Statement.{statement}
 use Rattle.imgproc.proofs.reading.check_settings.Tie as tie
 
@@ -20,9 +20,9 @@ abbrev rest : ReadingConfig → Conditions
 rest s = refused_if (bad_kernel s.opening_kernel) InvalidKernel then last s
 
 -- past the division's settings
-past-division : (s : ReadingConfig) → first (division_settings s.division) ≡ Accepted → first (reading_settings s) ≡ first (rest s)
+past_division : (s : ReadingConfig) → first (division_settings s.division) ≡ Accepted → first (reading_settings s) ≡ first (rest s)
 unfolding reading_settings
-past-division s = then_accepted (division_settings s.division) (rest s)
+past_division s = then_accepted (division_settings s.division) (rest s)
 
 check-settings-requires : tie.Need-check-settings-requires
 check-settings-requires c κs = search rules
@@ -46,7 +46,7 @@ returns_2 c =
     let t = c.before.before in
     let d = t.before.before in
     let s = d.before.args.config in
-    sym (past-division s (sym d.check-settings.ensures ∙ t.enum_told.given.1) ∙ kernel-small s.opening_kernel (last s) c.if1.true)
+    sym (past_division s (sym d.check-settings.ensures ∙ t.enum_told.given.1) ∙ kernel_small s.opening_kernel (last s) c.if1.true)
 
 returns-3 : tie.Need-returns-3
 returns-3 c =
@@ -54,8 +54,8 @@ returns-3 c =
     let t = e.before.before in
     let d = t.before.before in
     let s = d.before.args.config in
-    sym (past-division s (sym d.check-settings.ensures ∙ t.enum_told.given.1)
-    ∙ kernel-even s.opening_kernel (last s) e.if1.false c.if2.true)
+    sym (past_division s (sym d.check-settings.ensures ∙ t.enum_told.given.1)
+    ∙ kernel_even s.opening_kernel (last s) e.if1.false c.if2.true)
 
 check-settings-requires-2 : tie.Need-check-settings-requires-2
 check-settings-requires-2 c κs = search rules
@@ -75,7 +75,7 @@ returns-4 c =
     let d = t.before.before in
     let s = d.before.args.config in
     c.enum-told4.given.1
-    ∙ sym (past-division s (sym d.check-settings.ensures ∙ t.enum_told.given.1)
+    ∙ sym (past_division s (sym d.check-settings.ensures ∙ t.enum_told.given.1)
     ∙ kernel_good s.opening_kernel (last s) e.if1.false f.if2.false
     ∙ then_refused (grid_settings s.grid) (sauvola_settings s.sauvola) (sym g.check-settings2.ensures ∙ c.enum-told4.given.1))
 
@@ -92,7 +92,7 @@ returns-5 c =
     let d = t.before.before in
     let s = d.before.args.config in
     c.check-settings3.ensures
-    ∙ sym (past-division s (sym d.check-settings.ensures ∙ t.enum_told.given.1)
+    ∙ sym (past_division s (sym d.check-settings.ensures ∙ t.enum_told.given.1)
     ∙ kernel_good s.opening_kernel (last s) e.if1.false f.if2.false
     ∙ then_accepted (grid_settings s.grid) (sauvola_settings s.sauvola) (sym g.check-settings2.ensures ∙ q.enum-told3.given.1))
 

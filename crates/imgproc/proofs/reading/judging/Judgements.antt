@@ -13,7 +13,7 @@ use borrow.Author.Tests.{le-leb, lt-leb}
 use Rattle.image.specs.Layout.{area_limit}
 use Rattle.image.specs.declared.Geometry.{Geometry}
 use Rattle.image.specs.Plane.{pixel, picture}
-use Rattle.image.specs.PlaneLaws.{length-tabulate, get_d_tabulate, in_plane, pixel-plane}
+use Rattle.image.specs.PlaneLaws.{length-tabulate, get_d_tabulate, in_plane, pixel_plane}
 use Rattle.image.specs.Views.{picture_again}
 use Rattle.imgproc.specs.declared.reading.config.ReadingConfig.{ReadingConfig}
 use Rattle.imgproc.specs.declared.reading.judging.Judged.{Judged}
@@ -26,7 +26,7 @@ use Rattle.imgproc.specs.Sauvola.{threshold_at_pixel, at_or_below}
 use Rattle.imgproc.specs.Walks.{walk_more, walk_le}
 use Rattle.imgproc.specs.Reading.{is_dark, is_light, is_skipped, byte_of, judged_over, pixels}
 use Rattle.imgproc.specs.ReadingSteps.{JudgeReady, Room, PixelsJudged, marked_over}
-use Rattle.imgproc.specs.ReadingLaws.{pixels_none, pixels-row, pixels-most}
+use Rattle.imgproc.specs.ReadingLaws.{pixels_none, pixels_row, pixels_most}
 use Rattle.image.specs.FillLaws.{row_in_plane}
 
 bit_one : (b : Bool) → (bit b ≡ 0 → ⊥) → b ≡ true
@@ -61,9 +61,9 @@ module _ {o : List ℕ} {g : Geometry} {sk ws : List ℕ} {at : ℕ} {s : Readin
       in_plane (tiles_x_of s.grid g.width) (tiles_y_of s.grid g.height) (x / s.grid.tile_width) (y / s.grid.tile_height) across down
 
   -- the mark stands in the skips
-  pub tile-within : tile < length sk
+  pub tile_within : tile < length sk
   unfolding skips
-  tile-within =
+  tile_within =
       let wide = tiles_x_of s.grid g.width in
       rw (ap length ready.marks ∙ length-tabulate (λ t. bit (skip (t % wide) (t / wide))) (wide * tiles_y_of s.grid g.height)) inside
 
@@ -77,8 +77,8 @@ module _ {o : List ℕ} {g : Geometry} {sk ws : List ℕ} {at : ℕ} {s : Readin
       ∙ get_d_tabulate (λ t. bit (skip (t % wide) (t / wide))) (wide * tiles_y_of s.grid g.height) tile inside
       ∙ ap₂ (λ (i j : ℕ). bit (skip i j)) (digits_mod row across) (digits_div row across)
 
-  pub place-within : y * g.width + x < length o
-  place-within = rw ready.whole (in_plane g.width g.height x y X Y)
+  pub place_within : y * g.width + x < length o
+  place_within = rw ready.whole (in_plane g.width g.height x y X Y)
 
   pub is_skipped_lem : (get_or sk tile 0 ≡ 0 → ⊥) → Skipped ≡ judged_over s g.width g.height o x y
   unfolding judged_over
@@ -113,7 +113,7 @@ module _ {before : Judged} {s : ReadingConfig} {g : Geometry} {o : List ℕ} {y 
   unfolding walk
   none_judged = record { each = λ x l. absurd (omega arith); dark = omega arith; light = omega arith; skipped = omega arith }
 
-  pub next-judged : {c d : Judged} {out : List ℕ} {n : ℕ} (j : Judgement)
+  pub next_judged : {c d : Judged} {out : List ℕ} {n : ℕ} (j : Judgement)
       → PixelsJudged before s g o y n c out
       → n < length out
       → j ≡ judged_over s g.width g.height o n y
@@ -121,7 +121,7 @@ module _ {before : Judged} {s : ReadingConfig} {g : Geometry} {o : List ℕ} {y 
       → d.light ≡ c.light + bit (is_light j)
       → d.skipped ≡ c.skipped + bit (is_skipped j)
       → PixelsJudged before s g o y (n + 1) d (set out n (byte_of s.sauvola j))
-  next-judged {c} {d} {out} {n} j p t is a b e =
+  next_judged {c} {d} {out} {n} j p t is a b e =
       let at : ℕ → Judgement = λ x. judged_over s g.width g.height o x y in
       record {
         each =
@@ -155,11 +155,11 @@ module _ {s : ReadingConfig} {g : Geometry} {o : List ℕ} (W : 0 < g.width) whe
     skipped = d ∙ sym (pixels_none g.width (λ x y. is_skipped (judged_over s g.width g.height o x y)));
   }
 
-  pub next-counted : {c d : Judged} {out : List ℕ} {y : ℕ} → RowsCounted s g o c y → PixelsJudged c s g o y g.width d out → RowsCounted s g o d (y + 1)
-  next-counted {y = y} r p = record {
-    dark = omega (arith, p.dark, r.dark, pixels-row g.width y (λ x y. is_dark (judged_over s g.width g.height o x y)) W);
-    light = omega (arith, p.light, r.light, pixels-row g.width y (λ x y. is_light (judged_over s g.width g.height o x y)) W);
-    skipped = omega (arith, p.skipped, r.skipped, pixels-row g.width y (λ x y. is_skipped (judged_over s g.width g.height o x y)) W);
+  pub next_counted : {c d : Judged} {out : List ℕ} {y : ℕ} → RowsCounted s g o c y → PixelsJudged c s g o y g.width d out → RowsCounted s g o d (y + 1)
+  next_counted {y = y} r p = record {
+    dark = omega (arith, p.dark, r.dark, pixels_row g.width y (λ x y. is_dark (judged_over s g.width g.height o x y)) W);
+    light = omega (arith, p.light, r.light, pixels_row g.width y (λ x y. is_light (judged_over s g.width g.height o x y)) W);
+    skipped = omega (arith, p.skipped, r.skipped, pixels_row g.width y (λ x y. is_skipped (judged_over s g.width g.height o x y)) W);
   }
 
   -- no count passes the pixels of its rows, so there is room for one row more
@@ -167,13 +167,13 @@ module _ {s : ReadingConfig} {g : Geometry} {o : List ℕ} (W : 0 < g.width) whe
   room_for_row {y = y} r t a =
       let n : g.width * y + g.width ≤ g.width * g.height = omega (arith, row_in_plane g.width g.height y t, mul_comm g.width y) in
       record {
-        dark = omega (arith, r.dark, pixels-most g.width y (λ x y. is_dark (judged_over s g.width g.height o x y)));
-        light = omega (arith, r.light, pixels-most g.width y (λ x y. is_light (judged_over s g.width g.height o x y)));
-        skipped = omega (arith, r.skipped, pixels-most g.width y (λ x y. is_skipped (judged_over s g.width g.height o x y)));
+        dark = omega (arith, r.dark, pixels_most g.width y (λ x y. is_dark (judged_over s g.width g.height o x y)));
+        light = omega (arith, r.light, pixels_most g.width y (λ x y. is_light (judged_over s g.width g.height o x y)));
+        skipped = omega (arith, r.skipped, pixels_most g.width y (λ x y. is_skipped (judged_over s g.width g.height o x y)));
       }
 
 -- the bytes of a row are those of the marked picture
-pub marked-pixel : (s : ReadingConfig) (w h : ℕ) (o : List ℕ) (x y : ℕ) → x < w → y < h
+pub marked_pixel : (s : ReadingConfig) (w h : ℕ) (o : List ℕ) (x y : ℕ) → x < w → y < h
     → pixel (marked_over s w h o) w x y ≡ byte_of s.sauvola (judged_over s w h o x y)
 unfolding marked_over
-marked-pixel s w h o x y X Y = pixel-plane w h (λ x y. byte_of s.sauvola (judged_over s w h o x y)) x y X Y
+marked_pixel s w h o x y X Y = pixel_plane w h (λ x y. byte_of s.sauvola (judged_over s w h o x y)) x y X Y

@@ -3,7 +3,7 @@ use borrow.Author.Rules.{rules}
 use mathlib.Core.Path.{sym, ◌∙◌}
 use lib.ListN.{length}
 use Rattle.imgproc.specs.declared.ImgProcError.TheVariants.{Image, DimensionMismatch}
-use Rattle.imgproc.proofs.WaysOut.{Pair, pair_of, paired, source-kept, ways}
+use Rattle.imgproc.proofs.WaysOut.{Pair, pair_of, paired, source_kept, ways}
 use Rattle.imgproc.proofs.reading.Ways.{says, room_says, refused_call, done}
 use Rattle.imgproc.proofs.reading.reading.Statement.{statement}
 use Rattle.imgproc.proofs.reading.reading.Tie as tie
@@ -76,7 +76,7 @@ enum-told-3 c = search rules
 check-room-requires : tie.Need-check-room-requires
 check-room-requires c κs =
     let s = c.before.before in
-    let k = source-kept (pair s.before) in
+    let k = source_kept (pair s.before) in
     let y = says (start s.before).args.config (sym s.check-settings.ensures ∙ c.enum-told3.given.1) in
     record {
       wide = k.wide;

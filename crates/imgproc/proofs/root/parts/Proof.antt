@@ -2,7 +2,7 @@
 use mathlib.Core.Path.{◌≡◌, refl, sym, ap, ◌∙◌}
 use Prim.Native.Nat.{ℕ, ◌+◌, ◌-◌, ◌*◌, ◌/◌, ◌%◌, ◌^◌, ◌≤◌, ◌<◌}
 use native.Mathlib.Omega.{arith}
-use Rattle.imgproc.proofs.root.Scale.{halve, low_e, units_low, units_high, same-high}
+use Rattle.imgproc.proofs.root.Scale.{halve, low_e, units_low, units_high, same_high}
 use Rattle.imgproc.proofs.root.parts.Statement.{statement}
 use Rattle.imgproc.proofs.root.parts.Tie as tie
 
@@ -29,7 +29,7 @@ returns c =
       under = omega arith;
       low = omega arith;
       high = omega arith;
-      same = ap (λ (k : ℕ). m * 2 ^ k) q ∙ same-high m f 1074 c.if1.true ∙ ap (λ (k : ℕ). k * 2 ^ 1074) (sym (units_high b c.if1.true));
+      same = ap (λ (k : ℕ). m * 2 ^ k) q ∙ same_high m f 1074 c.if1.true ∙ ap (λ (k : ℕ). k * 2 ^ 1074) (sym (units_high b c.if1.true));
     }
 
 loop-holds : tie.Need-loop-init invariant-loop decreases-loop

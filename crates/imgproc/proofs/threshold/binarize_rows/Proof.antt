@@ -6,10 +6,10 @@ use mathlib.Core.Path.{sym, ◌∙◌}
 use mathlib.Core.List.{List}
 use lib.ListN.{length}
 use Rattle.image.specs.Plane.{picture}
-use Rattle.image.specs.Views.{painted-sides}
+use Rattle.image.specs.Views.{painted_sides}
 use Rattle.imgproc.specs.Sauvola.{binarized}
-use Rattle.image.specs.PaintRows.{RowsPainted, rows_start, rows_same, rows_done, row_fits, part-long, rows_next, row_within_as}
-use Rattle.imgproc.proofs.threshold.Verdicts.{binarized-pixel}
+use Rattle.image.specs.PaintRows.{RowsPainted, rows_start, rows_same, rows_done, row_fits, part_long, rows_next, row_within_as}
+use Rattle.imgproc.proofs.threshold.Verdicts.{binarized_pixel}
 use Rattle.imgproc.proofs.threshold.binarize_rows.Statement.{statement}
 use Rattle.imgproc.proofs.threshold.binarize_rows.Tie as tie
 
@@ -71,7 +71,7 @@ verdict-row-requires c κs =
     record {
       ready = s.pre.ready;
       inside = t.if1.true;
-      wide = part-long (new s) _ _ _ s.args.dst.now l.y l.invariant (wide s).0 (wide s).1 (within t);
+      wide = part_long (new s) _ _ _ s.args.dst.now l.y l.invariant (wide s).0 (wide s).1 (within t);
     }
 
 add-y : tie.Need-overflow-add-y invariant-loop decreases-loop
@@ -89,10 +89,10 @@ loop-again c =
     let l = t.before.before.loop in
     let g = s.args.geometry in
     rows_next (new s) _ _ _ s.args.dst.now l.y l.invariant (wide s).0 (wide s).1 (within t) v.verdict-row.new.1.1.1.1.1.1.0
-    (v.verdict-row.auto.1.1.1.1.1.1.0 ∙ part-long (new s) _ _ _ s.args.dst.now l.y l.invariant (wide s).0 (wide s).1 (within t))
+    (v.verdict-row.auto.1.1.1.1.1.1.0 ∙ part_long (new s) _ _ _ s.args.dst.now l.y l.invariant (wide s).0 (wide s).1 (within t))
     (λ x u.
     v.verdict-row.ensures x u
-    ∙ sym (binarized-pixel s.args.config g.width g.height (picture s.args.src.now g) x l.y u t.if1.true))
+    ∙ sym (binarized_pixel s.args.config g.width g.height (picture s.args.src.now g) x l.y u t.if1.true))
     t.if1.true
 
 same_length : tie.Need-same-length invariant-loop decreases-loop
@@ -105,7 +105,7 @@ returns c =
     let s = c.before.before.before.before.before.before in
     let l = c.before.before.loop in
     rows_done (new s) _ _ _ s.args.dst.now l.y l.invariant c.if1.false
-    ∙ painted-sides s.args.dst.now s.args.dst-geometry (new s) (sym s.requires.pair.wide) (sym s.requires.pair.high)
+    ∙ painted_sides s.args.dst.now s.args.dst-geometry (new s) (sym s.requires.pair.wide) (sym s.requires.pair.high)
 
 pub binarize-rows-spec : {M : Type 1} → statement M
 binarize-rows-spec =

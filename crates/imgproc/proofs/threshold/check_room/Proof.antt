@@ -8,14 +8,14 @@ use Rattle.imgproc.specs.declared.ImgProcError.TheVariants.{WorkspaceTooSmall}
 use Rattle.imgproc.specs.declared.Check.TheVariants.{Accepted}
 use Rattle.imgproc.specs.Refusals.{Conditions, first, refused_if, sauvola_settings, table_entries}
 use Rattle.imgproc.specs.RefusalLaws.{then_refused, then_accepted}
-use Rattle.imgproc.specs.SauvolaLaws.{entries-small}
-use Rattle.imgproc.proofs.morphology.Ways.{room-short, room-enough}
+use Rattle.imgproc.specs.SauvolaLaws.{entries_small}
+use Rattle.imgproc.proofs.morphology.Ways.{room_short, room_enough}
 use Rattle.imgproc.proofs.threshold.check_room.Statement.{statement}
 use Rattle.imgproc.proofs.threshold.check_room.Tie as tie
 
 -- the entries of both tables fit
 small : (s : tie.Start) → table_entries s.args.geometry.width s.args.geometry.height < 18446744073709551616
-small s = omega (arith, entries-small s.args.geometry.width s.args.geometry.height s.requires.0 s.requires.1)
+small s = omega (arith, entries_small s.args.geometry.width s.args.geometry.height s.requires.0 s.requires.1)
 
 -- what is checked after the settings
 abbrev room : tie.Start → Conditions
@@ -55,13 +55,13 @@ mul-if1-2 c = omega (arith, small c.before.before.before.before.before)
 returns_2 : tie.Need-returns-2
 returns_2 c =
     let s = c.before.before.before.before.before.before in
-    sym (then_accepted (sauvola_settings s.args.config) (room s) (settings c.before.before.before) ∙ room-short _ _ c.if1.true)
+    sym (then_accepted (sauvola_settings s.args.config) (room s) (settings c.before.before.before) ∙ room_short _ _ c.if1.true)
 
 returns-3 : tie.Need-returns-3
 returns-3 c =
     let t = c.before.before.before in
     let s = c.before.before.before.before.before.before in
-    t.enum_told.given.1 ∙ sym (then_accepted (sauvola_settings s.args.config) (room s) (settings t) ∙ room-enough _ _ c.if1.false)
+    t.enum_told.given.1 ∙ sym (then_accepted (sauvola_settings s.args.config) (room s) (settings t) ∙ room_enough _ _ c.if1.false)
 
 pub check-room-spec : {M : Type 1} → statement M
 check-room-spec =

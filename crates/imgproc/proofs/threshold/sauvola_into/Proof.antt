@@ -3,9 +3,9 @@ use borrow.Author.Rules.{rules}
 use mathlib.Core.Path.{refl, sym, ◌∙◌}
 use lib.ListN.{length}
 use Rattle.imgproc.specs.declared.ImgProcError.TheVariants.{Image, DimensionMismatch}
-use Rattle.imgproc.proofs.WaysOut.{Pair, pair_of, paired, source-kept, ways}
+use Rattle.imgproc.proofs.WaysOut.{Pair, pair_of, paired, source_kept, ways}
 use Rattle.imgproc.proofs.Serving.{refused_call, served}
-use Rattle.imgproc.proofs.Answers.{room-here}
+use Rattle.imgproc.proofs.Answers.{room_here}
 use Rattle.imgproc.proofs.threshold.sauvola_into.Statement.{statement}
 use Rattle.imgproc.proofs.threshold.sauvola_into.Tie as tie
 
@@ -63,7 +63,7 @@ returns-4 : tie.Need-returns-4
 returns-4 c = refused_call DimensionMismatch (search ways)
 
 check-room-requires : tie.Need-check-room-requires
-check-room-requires c κs = let k = source-kept (pair c) in (k.small_width, k.small_height)
+check-room-requires c κs = let k = source_kept (pair c) in (k.small_width, k.small_height)
 
 enum-known-check : tie.Need-enum-known-check
 enum-known-check c = search rules
@@ -79,7 +79,7 @@ binarize-requires c κs =
     let t = c.before.before in
     let r = t.before.before in
     let p = pair r.before in
-    let room = room-here p r.check-room.ensures t.enum-told3.given.1 in
+    let room = room_here p r.check-room.ensures t.enum-told3.given.1 in
     record { pair = paired p; settings = room.0; fits = room.1 }
 
 same_length : tie.Need-same-length

@@ -10,17 +10,17 @@ use lib.Seq.{get_or-set_same, get_or-set_other}
 use borrow.Author.Count.{below_more}
 use Rattle.image.specs.declared.Geometry.{Geometry}
 use Rattle.image.specs.Layout.{side_limit}
-use Rattle.image.specs.Views.{pixel-picture}
+use Rattle.image.specs.Views.{pixel_picture}
 use Rattle.imgproc.specs.Refusals.{table_entries}
 use Rattle.imgproc.specs.Sums.{squared, sum_to, box_sum}
-use Rattle.imgproc.specs.SumLaws.{sum_none, sum_more, sum_le, box_top, box_left, box-down, box_le}
+use Rattle.imgproc.specs.SumLaws.{sum_none, sum_more, sum_le, box_top, box_left, box_down, box_le}
 use Rattle.imgproc.specs.Tables.{pixels_of, Holds, Both}
 
 -- ---- the pixels of a kept picture
 
 -- each pixel of a picture of bytes is a byte
-pub pixel-byte : (d : List ℕ) (g : Geometry) → ((i : ℕ) → get_or d i 0 ≤ 255) → (x y : ℕ) → x < g.width → y < g.height → pixels_of d g x y ≤ 255
-pixel-byte d g byte x y X Y = rw (pixel-picture d g x y X Y) (byte (y * g.stride + x))
+pub pixel_byte : (d : List ℕ) (g : Geometry) → ((i : ℕ) → get_or d i 0 ≤ 255) → (x y : ℕ) → x < g.width → y < g.height → pixels_of d g x y ≤ 255
+pixel_byte d g byte x y X Y = rw (pixel_picture d g x y X Y) (byte (y * g.stride + x))
 
 -- ---- entries
 
@@ -36,9 +36,9 @@ module _ (f : ℕ → ℕ → ℕ) where
   entry_left wide y l = sym (entry wide 0 y l ∙ box_left f y)
 
 -- no sum of squares of bytes passes 64 bits
-pub box-small : (f : ℕ → ℕ → ℕ) (w h x y : ℕ) → ((i j : ℕ) → i < w → j < h → f i j ≤ 65025) → x ≤ w → y ≤ h → w ≤ side_limit → h ≤ side_limit
+pub box_small : (f : ℕ → ℕ → ℕ) (w h x y : ℕ) → ((i j : ℕ) → i < w → j < h → f i j ≤ 65025) → x ≤ w → y ≤ h → w ≤ side_limit → h ≤ side_limit
     → box_sum f x y ≤ 65025 * side_limit * side_limit
-box-small f w h x y small X Y W H =
+box_small f w h x y small X Y W H =
     le_trans (box_le f 65025 x y (λ i j l m. small i j (omega arith) (omega arith)))
     (mul-le-mul {n₁ = 65025 * x} {m₁ = y} {n₂ = 65025 * side_limit} {m₂ = side_limit} (omega arith) (omega arith))
 
@@ -49,8 +49,8 @@ module _ (f : ℕ → ℕ → ℕ) (wide base n : ℕ) (ws : List ℕ) (v : ℕ)
       (λ k m. get_or-set_other ws (base + n) (base + k) v 0 (λ p. omega arith) ∙ h k m)
       (get_or-set_same ws (base + n) v 0 l ∙ e)
 
-  holds-other : (j : ℕ) → ((k : ℕ) → k < n → base + k ≡ j → ⊥) → Holds ws base f wide n → Holds (set ws j v) base f wide n
-  holds-other j o h k m = get_or-set_other ws j (base + k) v 0 (o k m) ∙ h k m
+  holds_other : (j : ℕ) → ((k : ℕ) → k < n → base + k ≡ j → ⊥) → Holds ws base f wide n → Holds (set ws j v) base f wide n
+  holds_other j o h k m = get_or-set_other ws j (base + k) v 0 (o k m) ∙ h k m
 
 module _ (f : ℕ → ℕ → ℕ) (w h base : ℕ) where
   -- none of either table yet
@@ -69,11 +69,11 @@ module _ (f : ℕ → ℕ → ℕ) (w h base : ℕ) where
       let r = b.room in
       record {
         sums =
-            holds-other f (w + 1) base (n + 1) (set ws (base + n) u) v (base + (w + 1) * (h + 1) + n) (λ k m e. omega arith)
+            holds_other f (w + 1) base (n + 1) (set ws (base + n) u) v (base + (w + 1) * (h + 1) + n) (λ k m e. omega arith)
             (holds_more f (w + 1) base n ws u b.sums (omega arith) p);
         squares =
             holds_more (squared f) (w + 1) (base + (w + 1) * (h + 1)) n (set ws (base + n) u) v
-            (holds-other (squared f) (w + 1) (base + (w + 1) * (h + 1)) n ws u (base + n) (λ k m e. omega arith) b.squares) (rw length-set (omega arith)) q;
+            (holds_other (squared f) (w + 1) (base + (w + 1) * (h + 1)) n ws u (base + n) (λ k m e. omega arith) b.squares) (rw length-set (omega arith)) q;
         room = simp length-set r;
       }
 
@@ -100,27 +100,27 @@ pub rows_fit : (w h y : ℕ) → y < h → y * (w + 1) + (w + 1) + (w + 1) ≤ (
 rows_fit w h y l = omega (arith, mul-le-mul_right {m = y + 2} {n = h + 1} (w + 1) (omega arith))
 
 -- the entry below `top` and right of what s sums
-next-entry :
+next_entry :
     (f : ℕ → ℕ → ℕ) (w x y top s : ℕ)
     → x < w
     → top ≡ box_sum f (x + 1) y
     → s ≡ sum_to (λ i. f i y) x
     → top + (s + f x y) ≡ box_sum f ((y * (w + 1) + (w + 1) + (x + 1)) % (w + 1)) ((y * (w + 1) + (w + 1) + (x + 1)) / (w + 1))
-next-entry f w x y top s l p q =
+next_entry f w x y top s l p q =
     let n : (y + 1) * (w + 1) + (x + 1) ≡ y * (w + 1) + (w + 1) + (x + 1) = omega arith in
-    omega (arith, box-down f (x + 1) y, sum_more (λ i. f i y) x, entry f (w + 1) (x + 1) (y + 1) (omega arith))
+    omega (arith, box_down f (x + 1) y, sum_more (λ i. f i y) x, entry f (w + 1) (x + 1) (y + 1) (omega arith))
     ∙ ap (λ (k : ℕ). box_sum f (k % (w + 1)) (k / (w + 1))) n
 
 module _ (f : ℕ → ℕ → ℕ) (w h base y : ℕ) (m : y < h) where
   -- a row begins with a zero in its first column
-  pub row-start :
+  pub row_start :
       (ws : List ℕ)
       → Both f w h base ((y + 1) * (w + 1)) ws
       → RowSoFar f w h base y
       (length (set (set ws (base + (y * (w + 1) + (w + 1))) 0) (base + (w + 1) * (h + 1) + (y * (w + 1) + (w + 1))) 0))
       (set (set ws (base + (y * (w + 1) + (w + 1))) 0) (base + (w + 1) * (h + 1) + (y * (w + 1) + (w + 1))) 0)
       0 0 0
-  row-start ws b =
+  row_start ws b =
       let n : (y + 1) * (w + 1) + 0 ≡ y * (w + 1) + (w + 1) = omega arith in
       let n' : (y + 1) * (w + 1) ≡ y * (w + 1) + (w + 1) = omega arith in
       record {
@@ -135,18 +135,18 @@ module _ (f : ℕ → ℕ → ℕ) (w h base y : ℕ) (m : y < h) where
       }
 
   -- and ends after w pixels
-  pub row-end : (long : ℕ) (ws : List ℕ) (s q x : ℕ) → RowSoFar f w h base y long ws s q x → w ≤ x → Both f w h base ((y + 2) * (w + 1)) ws
-  row-end long ws s q x r l =
+  pub row_end : (long : ℕ) (ws : List ℕ) (s q x : ℕ) → RowSoFar f w h base y long ws s q x → w ≤ x → Both f w h base ((y + 2) * (w + 1)) ws
+  row_end long ws s q x r l =
       let u = r.upto in
       let n : y * (w + 1) + (w + 1) + (x + 1) ≡ (y + 2) * (w + 1) = omega arith in
       subst (λ (k : ℕ). Both f w h base k ws) n r.both
 
   module _ (long : ℕ) (ws : List ℕ) (s q x : ℕ) (r : RowSoFar f w h base y long ws s q x) (l : x < w) where
-    pub above-sum : get_or ws (base + (y * (w + 1) + (x + 1))) 0 ≡ box_sum f (x + 1) y
-    above-sum = both_sum f w h base (y * (w + 1) + (w + 1) + (x + 1)) ws r.both (x + 1) y (omega arith) (omega arith)
+    pub above_sum : get_or ws (base + (y * (w + 1) + (x + 1))) 0 ≡ box_sum f (x + 1) y
+    above_sum = both_sum f w h base (y * (w + 1) + (w + 1) + (x + 1)) ws r.both (x + 1) y (omega arith) (omega arith)
 
-    pub above-square : get_or ws (base + (w + 1) * (h + 1) + (y * (w + 1) + (x + 1))) 0 ≡ box_sum (squared f) (x + 1) y
-    above-square = both_square f w h base (y * (w + 1) + (w + 1) + (x + 1)) ws r.both (x + 1) y (omega arith) (omega arith)
+    pub above_square : get_or ws (base + (w + 1) * (h + 1) + (y * (w + 1) + (x + 1))) 0 ≡ box_sum (squared f) (x + 1) y
+    above_square = both_square f w h base (y * (w + 1) + (w + 1) + (x + 1)) ws r.both (x + 1) y (omega arith) (omega arith)
 
     -- one pixel further: v is pixel (x, y)
     pub row_step :
@@ -173,9 +173,9 @@ module _ (f : ℕ → ℕ → ℕ) (w h base y : ℕ) (m : y < h) where
               (set (set ws (base + n) (get_or ws (base + (y * (w + 1) + (x + 1))) 0 + (s + v))) (base + (w + 1) * (h + 1) + n)
               (get_or ws (base + (w + 1) * (h + 1) + (y * (w + 1) + (x + 1))) 0 + (q + v * v)))) (add_assoc _ _ _)
               (both_more f w h base n _ _ r.both (omega (arith, rows_fit w h y m))
-              (ap (λ (k : ℕ). get_or ws (base + (y * (w + 1) + (x + 1))) 0 + (s + k)) e ∙ next-entry f w x y _ s l above-sum r.sum)
+              (ap (λ (k : ℕ). get_or ws (base + (y * (w + 1) + (x + 1))) 0 + (s + k)) e ∙ next_entry f w x y _ s l above_sum r.sum)
               (ap (λ (k : ℕ). get_or ws (base + (w + 1) * (h + 1) + (y * (w + 1) + (x + 1))) 0 + (q + k)) e2
-              ∙ next-entry (squared f) w x y _ q l above-square r.square));
+              ∙ next_entry (squared f) w x y _ q l above_square r.square));
         }
 
     -- the row's sums are small

@@ -60,10 +60,10 @@ add-y1 : tie.Need-overflow-add-y1
 add-y1 c = search rules
 
 rect-sum-requires : tie.Need-rect-sum-requires
-rect-sum-requires c κs = (sums c).sum-corners
+rect-sum-requires c κs = (sums c).sum_corners
 
 rect-sum-requires-2 : tie.Need-rect-sum-requires-2
-rect-sum-requires-2 c κs = (sums c.before).square-corners
+rect-sum-requires-2 c κs = (sums c.before).square_corners
 
 sub-count : tie.Need-overflow-sub-count
 sub-count c = search rules

@@ -6,8 +6,8 @@ use lib.ListN.{length, get_or}
 use Rattle.image.specs.Plane.{picture}
 use Rattle.imgproc.specs.Sauvola.{verdict}
 use Rattle.imgproc.specs.Tables.{pixels_of}
-use Rattle.image.specs.RowLaws.{row-long, row-picture}
-use Rattle.imgproc.proofs.threshold.Verdicts.{FilledSoFar, filled_none, filled_more, verdict-dark, verdict-light}
+use Rattle.image.specs.RowLaws.{row_long, row_picture}
+use Rattle.imgproc.proofs.threshold.Verdicts.{FilledSoFar, filled_none, filled_more, verdict_dark, verdict_light}
 use Rattle.imgproc.proofs.threshold.verdict_row.Statement.{statement}
 use Rattle.imgproc.proofs.threshold.verdict_row.Tie as tie
 
@@ -25,14 +25,14 @@ start t = t.before.before.before.before.before.before.before
 long : (t : tie.Then1 invariant-loop decreases-loop) → length t.before.before.before.row.result.now ≡ (start t).args.geometry.width
 long t =
     let s = start t in
-    row-long s.args.src.now s.args.geometry s.pre.ready.layout s.args.y s.pre.inside t.before.before.before.row.ensures.bytes
+    row_long s.args.src.now s.args.geometry s.pre.ready.layout s.args.y s.pre.inside t.before.before.before.row.ensures.bytes
 
 value-is : (t : tie.Then1 invariant-loop decreases-loop)
     → get_or t.before.before.before.row.result.now t.before.before.loop.next 0
     ≡ pixels_of (start t).args.src.now (start t).args.geometry t.before.before.loop.next (start t).args.y
 value-is t =
     let s = start t in
-    row-picture s.args.src.now s.args.geometry s.pre.ready.layout s.args.y s.pre.inside
+    row_picture s.args.src.now s.args.geometry s.pre.ready.layout s.args.y s.pre.inside
     t.before.before.before.row.ensures.bytes
     t.before.before.loop.next t.if1.true
 
@@ -71,7 +71,7 @@ loop-again c =
     filled_more
     (λ x. verdict a.config g.width g.height (picture a.src.now g) x a.y) g.width
     a.out.now l.out l.next _ s.pre.wide l.invariant t.if1.true
-    (verdict-dark a.config g.width g.height (picture a.src.now g) l.next a.y (value-is t) h.threshold-at-pixel.ensures c.if2.true)
+    (verdict_dark a.config g.width g.height (picture a.src.now g) l.next a.y (value-is t) h.threshold-at-pixel.ensures c.if2.true)
 
 slice_write_out_2 : tie.Need-slice-write-out-2 invariant-loop decreases-loop
 slice_write_out_2 c = let t = c.before.before.before in omega (arith, t.before.before.loop.invariant.same, (start t).requires.wide, t.if1.true)
@@ -90,7 +90,7 @@ loop-again-2 c =
     filled_more
     (λ x. verdict a.config g.width g.height (picture a.src.now g) x a.y) g.width
     a.out.now l.out l.next _ s.pre.wide l.invariant t.if1.true
-    (verdict-light a.config g.width g.height (picture a.src.now g) l.next a.y (value-is t) h.threshold-at-pixel.ensures c.if2.false)
+    (verdict_light a.config g.width g.height (picture a.src.now g) l.next a.y (value-is t) h.threshold-at-pixel.ensures c.if2.false)
 
 same_length : tie.Need-same-length invariant-loop decreases-loop
 same_length c = c.before.before.loop.invariant.same

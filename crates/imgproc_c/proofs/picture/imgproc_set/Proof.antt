@@ -2,7 +2,7 @@
 use borrow.Author.Rules.{rules}
 use mathlib.Core.Path.{refl}
 use Rattle.imgproc_c.specs.Picture.{geometry}
-use Rattle.imgproc_c.proofs.Numbers.{set-number}
+use Rattle.imgproc_c.proofs.Numbers.{set_number}
 use Rattle.imgproc_c.proofs.picture.imgproc_set.Statement.{statement}
 use Rattle.imgproc_c.proofs.picture.imgproc_set.Tie as tie
 
@@ -25,7 +25,7 @@ returns : tie.Need-returns
 returns c =
     let l = c.before.before.before.before in
     let a = l.before.before.before.args in
-    set-number a.«data».now (geometry a.width a.height a.stride) a.x a.y a.value
+    set_number a.«data».now (geometry a.width a.height a.stride) a.x a.y a.value
     (rw c.enum_told.given.1 at l.set.ensures) refl
 
 same_length_2 : tie.Need-same-length-2
@@ -36,7 +36,7 @@ returns_2 c =
     let p = c.before.before in
     let l = p.before.before.before.before in
     let a = l.before.before.before.args in
-    set-number a.«data».now (geometry a.width a.height a.stride) a.x a.y a.value
+    set_number a.«data».now (geometry a.width a.height a.stride) a.x a.y a.value
     (rw p.written.given.1 at l.set.ensures) c.number.ensures
 
 pub imgproc-set-spec : {M : Type 1} → statement M

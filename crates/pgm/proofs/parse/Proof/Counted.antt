@@ -8,7 +8,7 @@ use lib.ListN.{length, drop, length-append, length-drop}
 use Rattle.pgm.specs.declared.Parsed.{Parsed}
 use Rattle.pgm.specs.declared.Parsed.TheVariants.{Picture, Malformed}
 use Rattle.pgm.specs.Form.{side_limit, header, Answers}
-use Rattle.pgm.specs.FormLaws.{same-header}
+use Rattle.pgm.specs.FormLaws.{same_header}
 use Rattle.pgm.specs.Steps.{Headed, ReadsHeader}
 
 -- what `read_header` promised of its answer holds of the answer that a branch knows
@@ -22,17 +22,17 @@ module _ (l : List ℕ) where
 
   module _ (w h at : ℕ) (r : Headed l w h at) where
     -- the header lies in the input
-    pub header-inside : at ≤ length l
-    header-inside = omega (arith, r.ends, ap length r.begins ∙ length-append (header w h) (drop at l))
+    pub header_inside : at ≤ length l
+    header_inside = omega (arith, r.ends, ap length r.begins ∙ length-append (header w h) (drop at l))
 
     -- so few pixels that the code can count them
-    pub pixels-few : w * h ≤ side_limit * side_limit
-    pixels-few = mul-le-mul r.wide r.high
+    pub pixels_few : w * h ≤ side_limit * side_limit
+    pixels_few = mul-le-mul r.wide r.high
 
     -- with a byte too few or too many the input is no picture
     pub miscounted : (length l - at ≡ w * h → ⊥) → Answers l Malformed
     miscounted n v g f =
-        let s = same-header w h v g (drop at l) f.pixels r.wide r.high f.wide f.high (sym r.begins ∙ f.whole) in
+        let s = same_header w h v g (drop at l) f.pixels r.wide r.high f.wide f.high (sym r.begins ∙ f.whole) in
         n (sym (length-drop at l) ∙ ap length s.1.1 ∙ f.counted ∙ sym (ap₂ ◌*◌ s.0 s.1.0))
 
     -- with one byte for each pixel it is one

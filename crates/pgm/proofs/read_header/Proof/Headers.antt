@@ -10,7 +10,7 @@ use Rattle.pgm.specs.declared.Parsed.TheVariants.{Picture, Malformed}
 use Rattle.pgm.specs.declared.Side.TheVariants.{Number, Malformed as Side-as-Malformed}
 use Rattle.pgm.specs.Decimal.{decimal}
 use Rattle.pgm.specs.Form.{side_limit, magic, ending, header}
-use Rattle.pgm.specs.FormLaws.{same-side, header-parts}
+use Rattle.pgm.specs.FormLaws.{same_side, header_parts}
 use Rattle.pgm.specs.Steps.{Stands, ReadsSide, ReadsHeader}
 
 -- what a call promised of its answer holds of the answer that a branch knows
@@ -29,22 +29,22 @@ from_width w h rest = decimal w ++ (32 ∷ from_height h rest)
 
 module _ (l : List ℕ) where
   -- the input begins otherwise than with "P5 "
-  pub no-magic : Stands l 0 magic false → ReadsHeader l Malformed
-  no-magic s w h ww hh rest e = s (from_width w h rest) (e ∙ header-parts w h rest)
+  pub no_magic : Stands l 0 magic false → ReadsHeader l Malformed
+  no_magic s w h ww hh rest e = s (from_width w h rest) (e ∙ header_parts w h rest)
 
   -- what follows "P5 " in an input with a header
-  after-magic : (w h : ℕ) (rest : List ℕ) → l ≡ header w h ++ rest → drop 3 l ≡ from_width w h rest
-  after-magic w h rest e = ap (drop 3) (e ∙ header-parts w h rest)
+  after_magic : (w h : ℕ) (rest : List ℕ) → l ≡ header w h ++ rest → drop 3 l ≡ from_width w h rest
+  after_magic w h rest e = ap (drop 3) (e ∙ header_parts w h rest)
 
   -- no width follows
   pub no_width : ReadsSide l 3 Side-as-Malformed → ReadsHeader l Malformed
-  no_width s w h ww hh rest e = s w ww (from_height h rest) (after-magic w h rest e)
+  no_width s w h ww hh rest e = s w ww (from_height h rest) (after_magic w h rest e)
 
   module _ (w next : ℕ) (first : ReadsSide l 3 (Number w next)) where
     -- what follows the width in an input with a header
     after_width : (v h : ℕ) (rest : List ℕ) → v ≤ side_limit → l ≡ header v h ++ rest → drop next l ≡ from_height h rest
     after_width v h rest vv e =
-        (same-side w v (drop next l) (from_height h rest) (omega (arith, first.0)) (omega arith) (sym first.1.1 ∙ after-magic v h rest e)).1
+        (same_side w v (drop next l) (from_height h rest) (omega (arith, first.0)) (omega arith) (sym first.1.1 ∙ after_magic v h rest e)).1
 
     -- no height follows the width
     pub no_height : ReadsSide l next Side-as-Malformed → ReadsHeader l Malformed
@@ -54,11 +54,11 @@ module _ (l : List ℕ) where
       -- what follows the height in an input with a header
       after_height : (v g : ℕ) (rest : List ℕ) → v ≤ side_limit → g ≤ side_limit → l ≡ header v g ++ rest → drop last l ≡ ending ++ rest
       after_height v g rest vv gg e =
-          (same-side h g (drop last l) (ending ++ rest) (omega (arith, second.0)) (omega arith) (sym second.1.1 ∙ after_width v g rest vv e)).1
+          (same_side h g (drop last l) (ending ++ rest) (omega (arith, second.0)) (omega arith) (sym second.1.1 ∙ after_width v g rest vv e)).1
 
       -- "255" and a line feed do not follow the height
-      pub no-ending : Stands l last ending false → ReadsHeader l Malformed
-      no-ending s v g vv gg rest e = s rest (after_height v g rest vv gg e)
+      pub no_ending : Stands l last ending false → ReadsHeader l Malformed
+      no_ending s v g vv gg rest e = s rest (after_height v g rest vv gg e)
 
       -- the whole header stands there
       pub headed : Stands l 0 magic true → Stands l last ending true → ReadsHeader l (Picture w h (last + 4))
@@ -69,7 +69,7 @@ module _ (l : List ℕ) where
           ∙ ap (λ (t : List ℕ). magic ++ t) first.1.1
           ∙ ap (λ (t : List ℕ). magic ++ (decimal w ++ (32 ∷ t))) second.1.1
           ∙ ap (λ (t : List ℕ). magic ++ (decimal w ++ (32 ∷ (decimal h ++ (32 ∷ t))))) f.1
-          ∙ sym (header-parts w h rest) in
+          ∙ sym (header_parts w h rest) in
           record {
             wide = first.0;
             high = second.0;

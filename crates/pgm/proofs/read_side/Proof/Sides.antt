@@ -7,7 +7,7 @@ use mathlib.Core.Logic.{◌⊎◌, inl, inr, ⊎_elim}
 use lib.ListN.{length, get_or, drop}
 use Rattle.pgm.specs.declared.Side.TheVariants.{Number, Malformed}
 use Rattle.pgm.specs.Decimal.{digit, decimal}
-use Rattle.pgm.specs.DecimalLaws.{small_or, decimal_one, decimal-two}
+use Rattle.pgm.specs.DecimalLaws.{small_or, decimal_one, decimal_two}
 use Rattle.pgm.specs.Form.{side_limit}
 use Rattle.pgm.specs.Steps.{ReadsSide}
 use Rattle.pgm.proofs.read_side.Proof.Bytes.{inside, from, stands_at, goes_on}
@@ -43,7 +43,7 @@ module _ (l : List ℕ) (at : ℕ) where
 
       two : 10 ≤ n → ((n < 10) × One l at n) ⊎ Two l at n
       two k =
-          let f : drop at l ≡ digit (n / 10) ∷ digit (n % 10) ∷ 32 ∷ rest = e ∙ rw (decimal-two n k (omega arith)) in
+          let f : drop at l ≡ digit (n / 10) ∷ digit (n % 10) ∷ 32 ∷ rest = e ∙ rw (decimal_two n k (omega arith)) in
           let g = goes_on l at (digit (n / 10)) f in
           let h : drop (at + 2) l ≡ 32 ∷ rest = ap (λ (k : ℕ). drop k l) (sym (next_but_one at)) ∙ goes_on l (at + 1) (digit (n % 10)) g in
           inr (record {
@@ -78,13 +78,13 @@ module _ (l : List ℕ) (at : ℕ) where
               (from l (at + 1) (digit (n % 10)) o.second (omega arith)
               ∙ ap (λ (r : List ℕ). digit (n % 10) ∷ r)
               (ap (λ (k : ℕ). drop k l) (next_but_one at) ∙ from l (at + 2) 32 o.space (omega arith) ∙ ap (λ (k : ℕ). 32 ∷ drop k l) (third at)))
-              ∙ sym (ap (λ (t : List ℕ). t ++ (32 ∷ drop (at + 3) l)) (decimal-two n o.large (omega arith))),
+              ∙ sym (ap (λ (t : List ℕ). t ++ (32 ∷ drop (at + 3) l)) (decimal_two n o.large (omega arith))),
         ),
       )
 
   -- no side stands there where the bytes are neither
-  pub no-side : ((n : ℕ) → n < 10 → One l at n → ⊥) → ((n : ℕ) → n ≤ side_limit → Two l at n → ⊥) → ReadsSide l at Malformed
-  no-side one two n N rest e = ⊎_elim (λ o. one n o.0 o.1) (two n N) (told n rest N e)
+  pub no_side : ((n : ℕ) → n < 10 → One l at n → ⊥) → ((n : ℕ) → n ≤ side_limit → Two l at n → ⊥) → ReadsSide l at Malformed
+  no_side one two n N rest e = ⊎_elim (λ o. one n o.0 o.1) (two n N) (told n rest N e)
 
   -- two digits that were read, the first of them not 0, and a space are a side
   pub two_read : (a b : ℕ) → 0 < a → a < 10 → b < 10 → a * 10 + b ≤ side_limit →

@@ -1,6 +1,6 @@
 -- `usable` meets its contract. Assumes nothing.
 use lib.Ieee.{of_bits, nan_bits, neg}
-use Rattle.imgproc.proofs.grid.base.Floats.{all, no_range, no-low, no-high}
+use Rattle.imgproc.proofs.grid.base.Floats.{all, no_range, no_low, no_high}
 use Rattle.imgproc.proofs.grid.base.usable.Statement.{statement}
 use Rattle.imgproc.proofs.grid.base.usable.Tie as tie
 
@@ -19,11 +19,11 @@ returns_2 c = no_range c.before.before.before.args.k c.before.before.before.args
 
 returns-3 : tie.Need-returns-3
 unfolding of_bits neg
-returns-3 c = no-low c.before.before.args.k c.before.before.args.range c.if2.false
+returns-3 c = no_low c.before.before.args.k c.before.before.args.range c.if2.false
 
 returns-4 : tie.Need-returns-4
 unfolding of_bits neg
-returns-4 c = no-high c.before.args.k c.before.args.range c.if1.false
+returns-4 c = no_high c.before.args.k c.before.args.range c.if1.false
 
 pub usable-spec : {M : Type 1} → statement M
 usable-spec = tie.close (tie.spec float-from-bits-infinite returns returns_2 returns-3 returns-4)

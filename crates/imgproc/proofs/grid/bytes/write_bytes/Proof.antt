@@ -9,9 +9,9 @@ use Rattle.imgproc.specs.declared.grid.tiles.TileNumbers.{TileNumbers}
 use Rattle.imgproc.specs.Grid.{tiles_x_of, tiles_y_of}
 use Rattle.imgproc.specs.TileBytes.{byte_by}
 use Rattle.imgproc.specs.Tiles.{Proper, SmallGrid, joined_around}
-use Rattle.image.specs.WriteLaws.{written_none, written-more, length-written}
+use Rattle.image.specs.WriteLaws.{written_none, written_more, length-written}
 use Rattle.imgproc.proofs.grid.tiles.Counts.{total, some, few, column, row}
-use Rattle.imgproc.proofs.grid.tiles.Neighbours.{around-joined, around_proper, small-grid}
+use Rattle.imgproc.proofs.grid.tiles.Neighbours.{around_joined, around_proper, small_grid}
 use borrow.Author.Rules.{rules}
 use Rattle.imgproc.proofs.grid.bytes.write_bytes.Statement.{statement}
 use Rattle.imgproc.proofs.grid.bytes.write_bytes.Tie as tie
@@ -69,7 +69,7 @@ join-around-requires c κs =
     let k = c.before.before in
     let s = k.before.before.before.before in
     let G = s.requires.1.gathered in
-    let n = small-grid s.requires.1.picture s.args.config s.args.width s.args.height s.args.at s.args.workspace.now s.requires.0 G in
+    let n = small_grid s.requires.1.picture s.args.config s.args.width s.args.height s.args.at s.args.workspace.now s.requires.0 G in
     let X = k.before.tiles-along.ensures in
     let Y = k.tiles-along2.ensures in (
       subst (λ (x : ℕ). SmallGrid s.args.at x k.tiles-along2.result s.args.workspace.now) (sym X)
@@ -96,7 +96,7 @@ tile-byte-requires c κs =
     (sym
     (c.join-around.ensures
     ∙ counted k l.t
-    ∙ around-joined p a.config a.width a.height a.at a.workspace.now s.requires.0 G _ _ e f))
+    ∙ around_joined p a.config a.width a.height a.at a.workspace.now s.requires.0 G _ _ e f))
     (around_proper p a.config a.width a.height a.at a.workspace.now s.requires.0 G _ _ e f)
 
 add-bytes : tie.Need-overflow-add-bytes invariant-loop decreases-loop
@@ -141,7 +141,7 @@ loop-again c =
     let t = c.before.before.loop-test.true in
     let r = s.requires.2 in
     let v = c.tile-byte.ensures ∙ ap (byte_by s.args.which s.args.config) (c.before.join-around.ensures ∙ counted k l.t) in
-    (omega arith, written-more (byte s) s.args.to l.t c.tile-byte.result s.args.bytes.now l.bytes (omega arith) l.invariant.1 v)
+    (omega arith, written_more (byte s) s.args.to l.t c.tile-byte.result s.args.bytes.now l.bytes (omega arith) l.invariant.1 v)
 
 same_length : tie.Need-same-length invariant-loop decreases-loop
 unfolding byte

@@ -5,7 +5,7 @@ use native.Mathlib.Omega.{arith}
 use borrow.Author.Tests.{lt-ltb, le-ltb}
 use Rattle.imgproc.specs.GridCalls.{bad_grid}
 use Rattle.imgproc.specs.Refusals.{first}
-use Rattle.imgproc.proofs.grid.queries.Grids.{sound, few-tiles}
+use Rattle.imgproc.proofs.grid.queries.Grids.{sound, few_tiles}
 use borrow.Author.Rules.{rules}
 use Rattle.imgproc.proofs.grid.queries.check_query.Statement.{statement}
 use Rattle.imgproc.proofs.grid.queries.check_query.Tie as tie
@@ -22,7 +22,7 @@ unfolding first
 returns c = let u : bad_grid c.before.before.args.grid ≡ true = sym c.before.bad-grid.ensures ∙ c.if1.true in simp u
 
 mul-if2 : tie.Need-overflow-mul-if2
-mul-if2 c = omega (arith, few-tiles (sound _ (fine c.before)))
+mul-if2 c = omega (arith, few_tiles (sound _ (fine c.before)))
 
 returns_2 : tie.Need-returns-2
 unfolding first

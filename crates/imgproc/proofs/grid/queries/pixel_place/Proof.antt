@@ -5,7 +5,7 @@ use native.Mathlib.Omega.{arith}
 use lib.Dec.{ltb}
 use Rattle.imgproc.specs.GridCalls.{query_conditions, pixel_conditions}
 use Rattle.imgproc.specs.Refusals.{first}
-use Rattle.imgproc.proofs.grid.queries.Grids.{Asked, asked, inside-pixel, few-tiles, tile-row, tile-column, place-refused, place-there}
+use Rattle.imgproc.proofs.grid.queries.Grids.{Asked, asked, inside_pixel, few_tiles, tile_row, tile_column, place_refused, place_there}
 use borrow.Author.Rules.{rules}
 use Rattle.imgproc.proofs.grid.queries.pixel_place.Statement.{statement}
 use Rattle.imgproc.proofs.grid.queries.pixel_place.Tie as tie
@@ -34,7 +34,7 @@ enum-known-check : tie.Need-enum-known-check
 enum-known-check c = search rules
 
 returns : tie.Need-returns
-returns c = place-refused _ (checked c.before.before.before) c.before.check.given.1
+returns c = place_refused _ (checked c.before.before.before) c.before.check.given.1
 
 enum_told : tie.Need-enum-told
 enum_told c = search rules
@@ -46,8 +46,8 @@ mul-t9 : tie.Need-overflow-mul-t9
 mul-t9 c =
     let k = accepted c.before.before in
     let s = c.before.before.before.before.before.before.args in
-    let i = inside-pixel {q = s.grid} {len = s.len} {x = s.x} {y = s.y} k in
-    omega (arith, few-tiles k.grid, tile-row k.grid s.y i.1, tile-column k.grid s.x i.0)
+    let i = inside_pixel {q = s.grid} {len = s.len} {x = s.x} {y = s.y} k in
+    omega (arith, few_tiles k.grid, tile_row k.grid s.y i.1, tile_column k.grid s.x i.0)
 
 div-t10 : tie.Need-nonzero-div-t10
 div-t10 c = (accepted c.before.before.before).grid.tile_width
@@ -56,11 +56,11 @@ add-t11 : tie.Need-overflow-add-t11
 add-t11 c =
     let k = accepted c.before.before.before in
     let s = c.before.before.before.before.before.before.before.args in
-    let i = inside-pixel {q = s.grid} {len = s.len} {x = s.x} {y = s.y} k in
-    omega (arith, few-tiles k.grid, tile-row k.grid s.y i.1, tile-column k.grid s.x i.0)
+    let i = inside_pixel {q = s.grid} {len = s.len} {x = s.x} {y = s.y} k in
+    omega (arith, few_tiles k.grid, tile_row k.grid s.y i.1, tile_column k.grid s.x i.0)
 
 returns_2 : tie.Need-returns-2
-returns_2 c = place-there _ (checked c.before.before.before.before.before) c.before.before.before.enum_told.given.1
+returns_2 c = place_there _ (checked c.before.before.before.before.before) c.before.before.before.enum_told.given.1
 
 pub pixel-place-spec : {M : Type 1} → statement M
 pixel-place-spec =

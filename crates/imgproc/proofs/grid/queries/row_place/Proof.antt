@@ -3,7 +3,7 @@ use mathlib.Core.Path.{sym, ◌∙◌}
 use native.Mathlib.Omega.{arith}
 use lib.Dec.{ltb}
 use borrow.Author.Tests.{ltb-true}
-use Rattle.imgproc.proofs.grid.queries.Grids.{Asked, asked, few-tiles, tile-row, place-refused, place-there}
+use Rattle.imgproc.proofs.grid.queries.Grids.{Asked, asked, few_tiles, tile_row, place_refused, place_there}
 use borrow.Author.Rules.{rules}
 use Rattle.imgproc.proofs.grid.queries.row_place.Statement.{statement}
 use Rattle.imgproc.proofs.grid.queries.row_place.Tie as tie
@@ -15,7 +15,7 @@ enum-known-check : tie.Need-enum-known-check
 enum-known-check c = search rules
 
 returns : tie.Need-returns
-returns c = place-refused _ c.before.before.before.check-query.ensures c.before.check.given.1
+returns c = place_refused _ c.before.before.before.check-query.ensures c.before.check.given.1
 
 enum_told : tie.Need-enum-told
 enum_told c = search rules
@@ -32,10 +32,10 @@ div-t7 c = (accepted c.before).grid.tile_height
 mul-t8 : tie.Need-overflow-mul-t8
 mul-t8 c =
     let a = accepted c.before.before in
-    omega (arith, few-tiles a.grid, tile-row a.grid c.before.before.before.before.before.before.args.y (ltb-true _ _ a.there))
+    omega (arith, few_tiles a.grid, tile_row a.grid c.before.before.before.before.before.before.args.y (ltb-true _ _ a.there))
 
 returns_2 : tie.Need-returns-2
-returns_2 c = place-there _ c.before.before.before.before.check-query.ensures c.before.before.enum_told.given.1
+returns_2 c = place_there _ c.before.before.before.before.check-query.ensures c.before.before.enum_told.given.1
 
 pub row-place-spec : {M : Type 1} → statement M
 row-place-spec =

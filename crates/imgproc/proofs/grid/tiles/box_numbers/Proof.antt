@@ -7,7 +7,7 @@ use lib.ListN.{length, get_or}
 use Rattle.image.specs.Layout.{row_layout, side_limit}
 use Rattle.image.specs.Plane.{pixel}
 use Rattle.image.specs.Row.{row_in}
-use Rattle.image.specs.RowLaws.{row-long, row-pixel}
+use Rattle.image.specs.RowLaws.{row_long, row_pixel}
 use Rattle.imgproc.specs.Fold.{Box}
 use Rattle.imgproc.specs.Tiles.{numbers_in, line_numbers, joined, Small}
 use Rattle.imgproc.proofs.grid.tiles.Numbers.{same_line, one_row, below, small}
@@ -50,14 +50,14 @@ module _ (s : tie.Start invariant-loop decreases-loop) (y : ℕ) (t : y < s.args
 
   holds : (s.args.left < s.args.right) × (s.args.right ≤ s.args.left + side_limit) × (s.args.right ≤ length r)
   holds =
-      let long = row-long s.args.src.now s.args.geometry s.pre.0 y asked e in
+      let long = row_long s.args.src.now s.args.geometry s.pre.0 y asked e in
       (s.pre.1, omega (arith, s.pre.2, s.pre.0.small_width), omega (arith, s.pre.2))
 
   row_is : line_numbers (λ x. get_or r x 0) s.args.left (s.args.right - 1) ≡ numbers_in (picture s) (rows s y y)
   unfolding picture rows
   row_is =
       same_line (λ x. get_or r x 0) (λ x. picture s x y) s.args.left (s.args.right - 1) (omega (arith, s.pre.1))
-      (λ x l. row-pixel s.args.src.now s.args.geometry s.pre.0 y asked e x (omega (arith, s.pre.1, s.pre.2)))
+      (λ x l. row_pixel s.args.src.now s.args.geometry s.pre.0 y asked e x (omega (arith, s.pre.1, s.pre.2)))
       ∙ one_row (picture s) s.args.left (s.args.right - 1) y
 
 row-requires : tie.Need-row-requires invariant-loop decreases-loop

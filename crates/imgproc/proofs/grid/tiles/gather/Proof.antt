@@ -1,7 +1,7 @@
 -- `gather` opens the layout, which is valid, and gathers the tiles. Assumes nothing.
 use mathlib.Core.Path.{sym, ◌∙◌}
 use borrow.Author.Rules.{rules}
-use Rattle.image.specs.LayoutLaws.{kept-taken}
+use Rattle.image.specs.LayoutLaws.{kept_taken}
 use Rattle.imgproc.proofs.grid.tiles.gather.Statement.{statement}
 use Rattle.imgproc.proofs.grid.tiles.gather.Tie as tie
 
@@ -17,7 +17,7 @@ enum-told-2 c = search rules
 returns : tie.Need-returns
 returns c =
     let l = c.before.before in
-    absurd (kept-taken l.before.before.before.requires.layout (sym l.validate-layout.ensures ∙ c.enum-told2.given.1))
+    absurd (kept_taken l.before.before.before.requires.layout (sym l.validate-layout.ensures ∙ c.enum-told2.given.1))
 
 gather-tiles-requires : tie.Need-gather-tiles-requires
 gather-tiles-requires c κs = c.before.before.before.before.before.before.requires

@@ -5,7 +5,7 @@ use native.Mathlib.Nat.{le_refl}
 use native.Mathlib.Omega.{arith}
 use Rattle.imgproc.specs.declared.grid.tiles.TileNumbers.{TileNumbers}
 use Rattle.imgproc.specs.Tiles.{entry, joined, join_over, Small}
-use Rattle.imgproc.proofs.grid.tiles.Joins.{join_one, join-next}
+use Rattle.imgproc.proofs.grid.tiles.Joins.{join_one, join_next}
 use borrow.Author.Rules.{rules}
 use Rattle.imgproc.proofs.grid.tiles.join_row.Statement.{statement}
 use Rattle.imgproc.proofs.grid.tiles.join_row.Tie as tie
@@ -83,7 +83,7 @@ loop-again c =
       omega arith,
       c.join.ensures
           ∙ ap₂ joined l.invariant.2 c.before.load2.ensures
-          ∙ join-next (entries s) s.args.from l.i l.invariant.0
+          ∙ join_next (entries s) s.args.from l.i l.invariant.0
           ∙ ap (join_over (entries s) s.args.from) (sym e),
     )
 

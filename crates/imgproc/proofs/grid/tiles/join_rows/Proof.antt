@@ -6,7 +6,7 @@ use native.Mathlib.Omega.{arith}
 use lib.ListN.{length}
 use Rattle.imgproc.specs.declared.grid.tiles.TileNumbers.{TileNumbers}
 use Rattle.imgproc.specs.Tiles.{tile_entry, joined, join_over, Small, SmallRow}
-use Rattle.imgproc.proofs.grid.tiles.Joins.{join_one, join-next}
+use Rattle.imgproc.proofs.grid.tiles.Joins.{join_one, join_next}
 use borrow.Author.Rules.{rules}
 use Rattle.imgproc.proofs.grid.tiles.join_rows.Statement.{statement}
 use Rattle.imgproc.proofs.grid.tiles.join_rows.Tie as tie
@@ -102,7 +102,7 @@ loop-again c =
       omega arith,
       c.join.ensures
           ∙ ap₂ joined l.invariant.2 c.before.join-row2.ensures
-          ∙ join-next (row s) s.args.first l.j l.invariant.0
+          ∙ join_next (row s) s.args.first l.j l.invariant.0
           ∙ ap (join_over (row s) s.args.first) (sym e),
     )
 

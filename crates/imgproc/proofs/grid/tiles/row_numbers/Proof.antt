@@ -5,7 +5,7 @@ use native.Mathlib.Omega.{arith}
 use lib.ListN.{get_or}
 use borrow.Author.Rules.{rules}
 use Rattle.image.specs.Layout.{side_limit}
-use Rattle.imgproc.proofs.grid.tiles.Numbers.{Scanned, scanned_none, scanned_more, scanned_all, sum-small, sum_sq_small}
+use Rattle.imgproc.proofs.grid.tiles.Numbers.{Scanned, scanned_none, scanned_more, scanned_all, sum_small, sum_sq_small}
 use Rattle.imgproc.proofs.grid.tiles.row_numbers.Statement.{statement}
 use Rattle.imgproc.proofs.grid.tiles.row_numbers.Tie as tie
 
@@ -26,7 +26,7 @@ here : (c : tie.After-max-of invariant-loop decreases-loop)
 here c =
     let l = c.before.before.before.before.loop in
     let s = c.before.before.before.before.before in
-    (omega (arith, sum-small l.invariant.2 l.invariant.0 (bytes s)), omega (arith, sum_sq_small l.invariant.2 l.invariant.0 (bytes s)))
+    (omega (arith, sum_small l.invariant.2 l.invariant.0 (bytes s)), omega (arith, sum_sq_small l.invariant.2 l.invariant.0 (bytes s)))
 
 square : (v : ℕ) → v < 256 → v * v ≤ 65025
 square v t = let a : v ≤ 255 = omega arith in mul-le-mul a a
@@ -73,7 +73,7 @@ loop-again c =
     (omega arith, omega arith, scanned_more l.invariant.2 l.invariant.0 c.before.min-of.ensures c.max_of.ensures)
 
 cast-t16 : tie.Need-overflow-cast-t16 invariant-loop decreases-loop
-cast-t16 c = let l = c.before.loop in omega (arith, sum-small l.invariant.2 l.invariant.0 (bytes c.before.before))
+cast-t16 c = let l = c.before.loop in omega (arith, sum_small l.invariant.2 l.invariant.0 (bytes c.before.before))
 
 cast-t17 : tie.Need-overflow-cast-t17 invariant-loop decreases-loop
 cast-t17 c = let l = c.before.loop in omega (arith, sum_sq_small l.invariant.2 l.invariant.0 (bytes c.before.before))

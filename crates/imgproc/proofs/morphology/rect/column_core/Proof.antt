@@ -1,8 +1,8 @@
 -- `column_core` meets its contract: each column is a lane. Assumes nothing.
 use native.Mathlib.Omega.{arith}
-use Rattle.imgproc.specs.Tallies.{room-part}
+use Rattle.imgproc.specs.Tallies.{room_part}
 use Rattle.imgproc.proofs.morphology.Lanes.{apart_within}
-use Rattle.imgproc.proofs.morphology.Planes.{off-within}
+use Rattle.imgproc.proofs.morphology.Planes.{off_within}
 use Rattle.imgproc.proofs.morphology.rect.column_core.Statement.{statement}
 use Rattle.imgproc.proofs.morphology.rect.column_core.Tie as tie
 
@@ -17,9 +17,9 @@ running-extremum-1d-requires c κs =
         source_apart = apart_within _ _ _ _ pre.source_apart (omega arith) (omega arith) (omega arith) (omega arith);
         target_apart = apart_within _ _ _ _ pre.target_apart (omega arith) (omega arith) (omega arith) (omega arith);
         kernel = omega arith;
-        room = room-part pre.room (omega arith);
+        room = room_part pre.room (omega arith);
       };
-      room = room-part pre.room (omega arith);
+      room = room_part pre.room (omega arith);
     }
 
 same_length : tie.Need-same-length
@@ -31,7 +31,7 @@ returns c =
     record {
       each = said.each;
       counted = said.counted;
-      kept = record { long = said.kept.long; same = λ j p q. said.kept.same j p (off-within _ _ q (omega arith) (omega arith)) };
+      kept = record { long = said.kept.long; same = λ j p q. said.kept.same j p (off_within _ _ q (omega arith) (omega arith)) };
     }
 
 pub column-core-spec : {M : Type 1} → statement M

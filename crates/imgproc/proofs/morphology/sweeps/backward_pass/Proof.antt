@@ -9,7 +9,7 @@ use Rattle.imgproc.specs.Reach.{backward_at}
 use Rattle.imgproc.specs.Compared.{Before}
 use Rattle.imgproc.specs.Sweeps.{lane, Backwards}
 use Rattle.imgproc.proofs.morphology.sweeps.Blocks.{order}
-use Rattle.imgproc.proofs.morphology.Lanes.{apart_within, line-order, Upward, up_none, up_room, up_fits, up-all}
+use Rattle.imgproc.proofs.morphology.Lanes.{apart_within, line_order, Upward, up_none, up_room, up_fits, up_all}
 use Rattle.imgproc.proofs.morphology.sweeps.Passes.{backward_copy, backward_meet, back_apart}
 use borrow.Author.Rules.{rules}
 use Rattle.imgproc.proofs.morphology.sweeps.backward_pass.Statement.{statement}
@@ -103,7 +103,7 @@ under c =
     let in-loop = c.before.before in
     let a = in-loop.before.before.before.args.planes in
     let inv = in-loop.before.loop.invariant in
-    omega (arith, line-order a.width in-loop.before.loop.y a.height (omega (arith, (neither c).1, inv.inside)), inv.here)
+    omega (arith, line_order a.width in-loop.before.loop.y a.height (omega (arith, (neither c).1, inv.inside)), inv.here)
 
 add-meet-lanes : tie.Need-overflow-add-meet-lanes invariant-loop decreases-loop
 add-meet-lanes c = omega (arith, under c.before)
@@ -158,7 +158,7 @@ same_length : tie.Need-same-length invariant-loop decreases-loop
 same_length c = c.before.loop.invariant.lines.rest.long
 
 returns : tie.Need-returns invariant-loop decreases-loop
-returns c = up-all c.before.loop.invariant c.loop-test.false
+returns c = up_all c.before.loop.invariant c.loop-test.false
 
 pub backward-pass-spec : {M : Type 1} → statement M
 backward-pass-spec =

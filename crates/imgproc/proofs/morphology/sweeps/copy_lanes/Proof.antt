@@ -3,7 +3,7 @@ use Prim.Native.Nat.{ℕ, ◌+◌, ◌-◌, ◌≤◌}
 use native.Mathlib.Omega.{arith}
 use lib.ListN.{get_or}
 use Rattle.imgproc.specs.Sweeps.{Rowed}
-use Rattle.imgproc.proofs.morphology.Lanes.{row_none, row_more, row_apart, row-all}
+use Rattle.imgproc.proofs.morphology.Lanes.{row_none, row_more, row_apart, row_all}
 use borrow.Author.Rules.{rules}
 use Rattle.imgproc.proofs.morphology.sweeps.copy_lanes.Statement.{statement}
 use Rattle.imgproc.proofs.morphology.sweeps.copy_lanes.Tie as tie
@@ -49,7 +49,7 @@ same_length : tie.Need-same-length invariant-loop decreases-loop
 same_length c = c.before.loop.invariant.1.rest.long
 
 returns : tie.Need-returns invariant-loop decreases-loop
-returns c = row-all c.before.loop.invariant.1 c.before.loop.invariant.0 c.loop-test.false
+returns c = row_all c.before.loop.invariant.1 c.before.loop.invariant.0 c.loop-test.false
 
 pub copy-lanes-spec : {M : Type 1} → statement M
 copy-lanes-spec =

@@ -6,7 +6,7 @@ use Rattle.imgproc.specs.Reach.{forward_at}
 use Rattle.imgproc.specs.Compared.{Before}
 use Rattle.imgproc.specs.Sweeps.{lane, Forwards}
 use Rattle.imgproc.proofs.morphology.sweeps.Blocks.{order, after}
-use Rattle.imgproc.proofs.morphology.Lanes.{apart_within, line_before, Downward, down_none, down-room, down_fits, down-all}
+use Rattle.imgproc.proofs.morphology.Lanes.{apart_within, line_before, Downward, down_none, down_room, down_fits, down_all}
 use Rattle.imgproc.proofs.morphology.sweeps.Passes.{forward_copy, forward_meet, forth_apart}
 use borrow.Author.Rules.{rules}
 use Rattle.imgproc.proofs.morphology.sweeps.forward_pass.Statement.{statement}
@@ -96,7 +96,7 @@ meet-lanes-requires c κs =
       target = omega arith;
       left_apart = record { clear = inl (omega arith) };
       right_apart = apart_within _ _ _ _ (forth_apart pre) (omega arith) (omega arith) (omega arith) (omega arith);
-      room = down-room pre.room in-loop.before.loop.invariant in-loop.loop-test.true;
+      room = down_room pre.room in-loop.before.loop.invariant in-loop.loop-test.true;
     }
 
 loop-less-2 : tie.Need-loop-smaller-2 invariant-loop decreases-loop
@@ -118,7 +118,7 @@ same_length : tie.Need-same-length invariant-loop decreases-loop
 same_length c = c.before.loop.invariant.lines.rest.long
 
 returns : tie.Need-returns invariant-loop decreases-loop
-returns c = down-all c.before.loop.invariant c.loop-test.false
+returns c = down_all c.before.loop.invariant c.loop-test.false
 
 pub forward-pass-spec : {M : Type 1} → statement M
 forward-pass-spec =

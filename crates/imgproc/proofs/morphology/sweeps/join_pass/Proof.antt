@@ -4,8 +4,8 @@ use native.Mathlib.Omega.{arith}
 use Rattle.imgproc.specs.Reach.{join_at}
 use Rattle.imgproc.specs.Compared.{extreme}
 use Rattle.imgproc.specs.Sweeps.{lane, Joins}
-use Rattle.imgproc.proofs.morphology.Lanes.{apart_within, line-order, Downward, down_none, down-room, down_fits, down-all}
-use Rattle.imgproc.proofs.morphology.sweeps.Passes.{join-line, prefix_apart, suffix_apart}
+use Rattle.imgproc.proofs.morphology.Lanes.{apart_within, line_order, Downward, down_none, down_room, down_fits, down_all}
+use Rattle.imgproc.proofs.morphology.sweeps.Passes.{join_line, prefix_apart, suffix_apart}
 use borrow.Author.Rules.{rules}
 use Rattle.imgproc.proofs.morphology.sweeps.join_pass.Statement.{statement}
 use Rattle.imgproc.proofs.morphology.sweeps.join_pass.Tie as tie
@@ -36,7 +36,7 @@ low-requires c κs = search rules
 lower : (c : tie.After-low invariant-loop decreases-loop)
     → let a = c.before.before.before.before.args.planes in
     c.low.result * a.width + a.width ≤ a.width * a.height
-lower c = let a = c.before.before.before.before.args.planes in omega (arith, line-order a.width c.low.result a.height (omega arith))
+lower c = let a = c.before.before.before.before.args.planes in omega (arith, line_order a.width c.low.result a.height (omega arith))
 
 mul_low : tie.Need-overflow-mul-low invariant-loop decreases-loop
 mul_low c = omega (arith, lower c)
@@ -47,7 +47,7 @@ high-requires c κs = search rules
 upper : (c : tie.After-high invariant-loop decreases-loop)
     → let a = c.before.before.before.before.before.args.planes in
     c.high.result * a.width + a.width ≤ a.width * a.height
-upper c = let a = c.before.before.before.before.before.args.planes in omega (arith, line-order a.width c.high.result a.height (omega arith))
+upper c = let a = c.before.before.before.before.before.args.planes in omega (arith, line_order a.width c.high.result a.height (omega arith))
 
 fits : (c : tie.In-loop invariant-loop decreases-loop)
     → let a = c.before.before.before.args.planes in
@@ -80,7 +80,7 @@ meet-lanes-requires c κs =
       target = omega arith;
       left_apart = apart_within _ _ _ _ (suffix_apart pre) (omega arith) (omega arith) (omega arith) (omega arith);
       right_apart = apart_within _ _ _ _ (prefix_apart pre) (omega arith) (omega arith) (omega arith) (omega arith);
-      room = down-room pre.room in-loop.before.loop.invariant in-loop.loop-test.true;
+      room = down_room pre.room in-loop.before.loop.invariant in-loop.loop-test.true;
     }
 
 add_at : tie.Need-overflow-add-at invariant-loop decreases-loop
@@ -98,7 +98,7 @@ loop-again c =
     let highs = called.before.before in
     let in-loop = highs.before.before in
     let start = in-loop.before.before.before in
-    join-line (extreme start.args.least) _ _ _ _ _ _ (suffix_apart start.requires) (prefix_apart start.requires) _ _ in-loop.before.loop.invariant
+    join_line (extreme start.args.least) _ _ _ _ _ _ (suffix_apart start.requires) (prefix_apart start.requires) _ _ in-loop.before.loop.invariant
     in-loop.loop-test.true
     highs.before.low.ensures
     highs.high.ensures
@@ -109,7 +109,7 @@ same_length : tie.Need-same-length invariant-loop decreases-loop
 same_length c = c.before.loop.invariant.lines.rest.long
 
 returns : tie.Need-returns invariant-loop decreases-loop
-returns c = down-all c.before.loop.invariant c.loop-test.false
+returns c = down_all c.before.loop.invariant c.loop-test.false
 
 pub join-pass-spec : {M : Type 1} → statement M
 join-pass-spec =

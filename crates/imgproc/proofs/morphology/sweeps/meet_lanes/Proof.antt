@@ -3,10 +3,10 @@ use Prim.Native.Nat.{ℕ, ◌+◌, ◌-◌, ◌≤◌}
 use mathlib.Core.Path.{refl, ◌∙◌}
 use native.Mathlib.Omega.{arith}
 use lib.ListN.{get_or}
-use Rattle.imgproc.specs.Tallies.{Raised, raised_none, raised-twice, raised_as, room_left}
+use Rattle.imgproc.specs.Tallies.{Raised, raised_none, raised_twice, raised_as, room_left}
 use Rattle.imgproc.specs.Compared.{extreme}
 use Rattle.imgproc.specs.Sweeps.{Rowed}
-use Rattle.imgproc.proofs.morphology.Lanes.{row_none, row_more, row_apart, row-all}
+use Rattle.imgproc.proofs.morphology.Lanes.{row_none, row_more, row_apart, row_all}
 use borrow.Author.Rules.{rules}
 use Rattle.imgproc.proofs.morphology.sweeps.meet_lanes.Statement.{statement}
 use Rattle.imgproc.proofs.morphology.sweeps.meet_lanes.Tie as tie
@@ -66,10 +66,10 @@ loop-again c =
     let start = at-loop.before.before in
     let a = row_apart _ _ _ lp.x (start.args.a + lp.x) lp.ws lp.invariant.1 start.requires.left_apart lp.invariant.0 (omega arith) (omega arith) in
     let b = row_apart _ _ _ lp.x (start.args.b + lp.x) lp.ws lp.invariant.1 start.requires.right_apart lp.invariant.0 (omega arith) (omega arith) in
-    let one_more = raised-twice lp.invariant.2 called.extreme.ensures.counted refl in (
+    let one_more = raised_twice lp.invariant.2 called.extreme.ensures.counted refl in (
       omega arith,
       row_more _ _ _ lp.x _ lp.ws lp.invariant.1 (omega arith) (c.chosen.ensures ∙ rw (a, b) at called.extreme.ensures.chosen),
-      raised-twice one_more c.before.counted.ensures (omega arith),
+      raised_twice one_more c.before.counted.ensures (omega arith),
     )
 
 same_length : tie.Need-same-length invariant-loop decreases-loop
@@ -78,7 +78,7 @@ same_length c = c.before.loop.invariant.1.rest.long
 returns : tie.Need-returns invariant-loop decreases-loop
 returns c =
     let inv = c.before.loop.invariant in
-    record { row = row-all inv.1 inv.0 c.loop-test.false; counted = raised_as inv.2 (omega arith) }
+    record { row = row_all inv.1 inv.0 c.loop-test.false; counted = raised_as inv.2 (omega arith) }
 
 pub meet-lanes-spec : {M : Type 1} → statement M
 meet-lanes-spec =

@@ -3,7 +3,7 @@ use mathlib.Core.Path.{◌∙◌}
 use Prim.Native.Nat.{◌*◌}
 use native.Mathlib.Omega.{arith}
 use Rattle.imgproc.specs.Sweeps.{area}
-use Rattle.imgproc.proofs.morphology.sweeps.Passes.{lines_swept, pass_again, passed-room}
+use Rattle.imgproc.proofs.morphology.sweeps.Passes.{lines_swept, pass_again, passed_room}
 use Rattle.imgproc.proofs.morphology.sweeps.running_extremum_1d.Statement.{statement}
 use Rattle.imgproc.proofs.morphology.sweeps.running_extremum_1d.Tie as tie
 
@@ -15,7 +15,7 @@ backward-pass-requires c κs =
     let forth = c.before.before.before in
     let pre = forth.before.before.before.requires in
     let said = forth.forward-pass.ensures in
-    pass_again pre.pass said.rest.long (passed-room pre.room said (omega arith))
+    pass_again pre.pass said.rest.long (passed_room pre.room said (omega arith))
 
 join-pass-requires : tie.Need-join-pass-requires
 join-pass-requires c κs =
@@ -26,7 +26,7 @@ join-pass-requires c κs =
     let first = forth.forward-pass.ensures in
     let second = back.backward-pass.ensures in
     pass_again pre.pass (second.rest.long ∙ first.rest.long)
-    (passed-room (passed-room {l = 2 * area start.args.planes} pre.room first (omega arith)) second (omega arith))
+    (passed_room (passed_room {l = 2 * area start.args.planes} pre.room first (omega arith)) second (omega arith))
 
 same_length : tie.Need-same-length
 same_length c =

@@ -1,7 +1,7 @@
 -- `sweep_strip` meets its contract: transposed, swept as lanes, transposed back. Assumes nothing.
 use mathlib.Core.Logic.{inl}
 use native.Mathlib.Omega.{arith}
-use Rattle.imgproc.specs.Tallies.{room-part}
+use Rattle.imgproc.specs.Tallies.{room_part}
 use Rattle.imgproc.proofs.morphology.Lanes.{apart_within, apart_swap}
 use Rattle.imgproc.proofs.morphology.Planes.{strip_swept}
 use Rattle.imgproc.proofs.morphology.sweeps.sweep_strip.Statement.{statement}
@@ -35,9 +35,9 @@ running-extremum-1d-requires c κs =
         source_apart = record { clear = inl (omega arith) };
         target_apart = record { clear = inl (omega arith) };
         kernel = pre.kernel;
-        room = room-part pre.room (omega arith);
+        room = room_part pre.room (omega arith);
       };
-      room = room-part pre.room (omega arith);
+      room = room_part pre.room (omega arith);
     }
 
 transpose-requires-2 : tie.Need-transpose-requires-2

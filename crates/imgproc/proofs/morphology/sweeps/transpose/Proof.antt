@@ -4,7 +4,7 @@ use mathlib.Core.Path.{◌≡◌}
 use native.Mathlib.Omega.{arith}
 use native.Mathlib.Nat.{not-suc-le-zero}
 use Rattle.imgproc.specs.Sweeps.{lane}
-use Rattle.imgproc.proofs.morphology.Lanes.{off, outside_at, apart_within, line-order, Done, done_none, done_more}
+use Rattle.imgproc.proofs.morphology.Lanes.{off, outside_at, apart_within, line_order, Done, done_none, done_more}
 use borrow.Author.Rules.{rules}
 use Rattle.imgproc.proofs.morphology.sweeps.transpose.Statement.{statement}
 use Rattle.imgproc.proofs.morphology.sweeps.transpose.Tie as tie
@@ -23,7 +23,7 @@ loop-holds c = (omega arith, done_none _ _ _ _ _ (λ i m. not-suc-le-zero m))
 fits : (c : tie.In-loop invariant-loop decreases-loop)
     → let a = c.before.before.before.args in
     c.before.loop.x * a.rows + a.rows ≤ a.rows * a.columns
-fits c = let a = c.before.before.before.args in omega (arith, line-order a.rows c.before.loop.x a.columns c.loop-test.true)
+fits c = let a = c.before.before.before.args in omega (arith, line_order a.rows c.before.loop.x a.columns c.loop-test.true)
 
 mul-transpose-column : tie.Need-overflow-mul-transpose-column invariant-loop decreases-loop
 mul-transpose-column c = omega (arith, fits c.before)
@@ -56,7 +56,7 @@ loop-again c =
       omega arith,
       done_more lp.x _ taken lp.invariant.1 called.transpose-column.ensures
           (λ y l.
-          let b = line-order a.columns y a.rows l in
+          let b = line_order a.columns y a.rows l in
           outside_at _ lp.invariant.1.rest (off (a.from + (y * a.columns + lp.x)) start.requires.apart (omega arith) (omega arith)))
           (λ i m ne. omega arith),
     )

@@ -2,7 +2,7 @@
 use Prim.Native.Nat.{ℕ, ◌+◌, ◌-◌, ◌*◌, ◌≤◌, ◌<◌}
 use native.Mathlib.Omega.{arith}
 use Rattle.imgproc.specs.Sweeps.{lane, Rowed}
-use Rattle.imgproc.proofs.morphology.Lanes.{line-order, row_none, row_more, row_apart, row-all}
+use Rattle.imgproc.proofs.morphology.Lanes.{line_order, row_none, row_more, row_apart, row_all}
 use borrow.Author.Rules.{rules}
 use Rattle.imgproc.proofs.morphology.sweeps.transpose_column.Statement.{statement}
 use Rattle.imgproc.proofs.morphology.sweeps.transpose_column.Tie as tie
@@ -20,7 +20,7 @@ loop-holds c = (omega arith, row_none _ _ _)
 inside : (c : tie.In-loop invariant-loop decreases-loop)
     → let a = c.before.before.args in
     c.before.loop.y * a.step + a.x < a.step * a.count
-inside c = let a = c.before.before.args in omega (arith, line-order a.step c.before.loop.y a.count c.loop-test.true)
+inside c = let a = c.before.before.args in omega (arith, line_order a.step c.before.loop.y a.count c.loop-test.true)
 
 mul-ws : tie.Need-overflow-mul-ws invariant-loop decreases-loop
 mul-ws c = omega (arith, inside c)
@@ -61,7 +61,7 @@ same_length : tie.Need-same-length invariant-loop decreases-loop
 same_length c = c.before.loop.invariant.1.rest.long
 
 returns : tie.Need-returns invariant-loop decreases-loop
-returns c = row-all c.before.loop.invariant.1 c.before.loop.invariant.0 c.loop-test.false
+returns c = row_all c.before.loop.invariant.1 c.before.loop.invariant.0 c.loop-test.false
 
 pub transpose-column-spec : {M : Type 1} → statement M
 transpose-column-spec =

@@ -2,7 +2,7 @@
 use native.Mathlib.Omega.{arith}
 use Prim.Native.Nat.{◌+◌, ◌*◌, ◌/◌, ◌<◌}
 use lib.ListN.{length}
-use Rattle.imgproc.proofs.reading.judging.Judgements.{tile-within, place-within, is_skipped_lem, is_dark_lem, is_light_lem}
+use Rattle.imgproc.proofs.reading.judging.Judgements.{tile_within, place_within, is_skipped_lem, is_dark_lem, is_light_lem}
 use Rattle.imgproc.proofs.reading.judging.judge.Statement.{statement}
 use Rattle.imgproc.proofs.reading.judging.judge.Tie as tie
 
@@ -19,11 +19,11 @@ start c = c.before.before.before.before.before
 within : (c : tie.After-tiles-along)
     → let a = c.before.before.before.before.before.args in
     a.y / a.config.grid.tile_height * c.tiles-along.result + a.x / a.config.grid.tile_width < length a.skips.now
-within c = let pre = c.before.before.before.before.before.requires in rw c.tiles-along.ensures (tile-within pre.0 pre.1.0 pre.1.1)
+within c = let pre = c.before.before.before.before.before.requires in rw c.tiles-along.ensures (tile_within pre.0 pre.1.0 pre.1.1)
 
 -- and the pixel in the opened picture
 place : (c : tie.After-tiles-along) → let a = (start c).args in a.y * a.packed.width + a.x < length a.opened.now
-place c = let pre = (start c).requires in place-within pre.0 pre.1.0 pre.1.1
+place c = let pre = (start c).requires in place_within pre.0 pre.1.0 pre.1.1
 
 mul-tile : tie.Need-overflow-mul-tile
 mul-tile c = omega (arith, within c.before)

@@ -6,7 +6,7 @@ use mathlib.Core.Path.{◌≡◌, refl, sym, ◌∙◌, subst}
 use lib.ListN.{length, length-set}
 use Rattle.imgproc.specs.declared.reading.judging.Judgement.TheVariants.{Dark, Light, Skipped}
 use Rattle.imgproc.specs.ReadingSteps.{Room, PixelsJudged}
-use Rattle.imgproc.proofs.reading.judging.Judgements.{none_judged, next-judged, room_for_one}
+use Rattle.imgproc.proofs.reading.judging.Judgements.{none_judged, next_judged, room_for_one}
 use Rattle.imgproc.proofs.reading.judging.judge_row.Statement.{statement}
 use Rattle.imgproc.proofs.reading.judging.judge_row.Tie as tie
 
@@ -57,7 +57,7 @@ loop-again c =
     let t = j.before in
     let l = t.before.before in (
       (omega (arith, t.if1.true), length-set l.loop.out l.loop.next _ ∙ l.loop.invariant.0.1),
-      next-judged Dark l.loop.invariant.1 (inside t) (sym c.before.enum_told.given.1 ∙ j.judge.ensures) (omega arith) (omega arith) (omega arith),
+      next_judged Dark l.loop.invariant.1 (inside t) (sym c.before.enum_told.given.1 ∙ j.judge.ensures) (omega arith) (omega arith) (omega arith),
     )
 
 enum-told-2 : tie.Need-enum-told-2 invariant-loop decreases-loop
@@ -78,7 +78,7 @@ loop-again-2 c =
     let t = j.before in
     let l = t.before.before in (
       (omega (arith, t.if1.true), length-set l.loop.out l.loop.next _ ∙ l.loop.invariant.0.1),
-      next-judged Light l.loop.invariant.1 (inside t) (sym c.before.enum-told2.given.1 ∙ j.judge.ensures) (omega arith) (omega arith) (omega arith),
+      next_judged Light l.loop.invariant.1 (inside t) (sym c.before.enum-told2.given.1 ∙ j.judge.ensures) (omega arith) (omega arith) (omega arith),
     )
 
 enum-told-3 : tie.Need-enum-told-3 invariant-loop decreases-loop
@@ -99,7 +99,7 @@ loop-again-3 c =
     let t = j.before in
     let l = t.before.before in (
       (omega (arith, t.if1.true), length-set l.loop.out l.loop.next _ ∙ l.loop.invariant.0.1),
-      next-judged Skipped l.loop.invariant.1 (inside t) (sym c.before.enum-told3.given.1 ∙ j.judge.ensures) (omega arith) (omega arith) (omega arith),
+      next_judged Skipped l.loop.invariant.1 (inside t) (sym c.before.enum-told3.given.1 ∙ j.judge.ensures) (omega arith) (omega arith) (omega arith),
     )
 
 same_length : tie.Need-same-length invariant-loop decreases-loop

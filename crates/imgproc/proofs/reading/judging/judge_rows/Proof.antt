@@ -7,9 +7,9 @@ use mathlib.Core.List.{List}
 use lib.ListN.{length}
 use Rattle.image.specs.LayoutLaws.{area_small}
 use Rattle.imgproc.specs.ReadingSteps.{marked_over}
-use Rattle.image.specs.Views.{painted-sides}
-use Rattle.image.specs.PaintRows.{RowsPainted, rows_start, rows_same, rows_done, row_fits, part-long, rows_next, row_within_as}
-use Rattle.imgproc.proofs.reading.judging.Judgements.{RowsCounted, none_counted, next-counted, room_for_row, marked-pixel}
+use Rattle.image.specs.Views.{painted_sides}
+use Rattle.image.specs.PaintRows.{RowsPainted, rows_start, rows_same, rows_done, row_fits, part_long, rows_next, row_within_as}
+use Rattle.imgproc.proofs.reading.judging.Judgements.{RowsCounted, none_counted, next_counted, room_for_row, marked_pixel}
 use Rattle.imgproc.proofs.reading.judging.judge_rows.Statement.{statement}
 use Rattle.imgproc.proofs.reading.judging.judge_rows.Tie as tie
 
@@ -73,7 +73,7 @@ judge-row-requires c κs =
       (
         t.if1.true,
         (
-          part-long (new s) _ _ _ a.dst.now l.y l.invariant.0 (wide s).0 (wide s).1 (within t),
+          part_long (new s) _ _ _ a.dst.now l.y l.invariant.0 (wide s).0 (wide s).1 (within t),
           room_for_row (wide s).0 l.invariant.1 t.if1.true (area_small s.pre.0.tables.layout),
         ),
       ),
@@ -94,12 +94,12 @@ loop-again c =
     let l = t.before.before.loop in
     let a = s.args in (
       rows_next (new s) _ _ _ a.dst.now l.y l.invariant.0 (wide s).0 (wide s).1 (within t) v.judge-row.new.1.1.1.1.1.1.1.1.0
-          (v.judge-row.auto.1.1.1.1.1.1.1.1.0 ∙ part-long (new s) _ _ _ a.dst.now l.y l.invariant.0 (wide s).0 (wide s).1 (within t))
+          (v.judge-row.auto.1.1.1.1.1.1.1.1.0 ∙ part_long (new s) _ _ _ a.dst.now l.y l.invariant.0 (wide s).0 (wide s).1 (within t))
           (λ x u.
           v.judge-row.ensures.each x u
-          ∙ sym (marked-pixel a.config a.packed.width a.packed.height a.opened.now x l.y u t.if1.true))
+          ∙ sym (marked_pixel a.config a.packed.width a.packed.height a.opened.now x l.y u t.if1.true))
           t.if1.true,
-      next-counted (wide s).0 l.invariant.1 v.judge-row.ensures,
+      next_counted (wide s).0 l.invariant.1 v.judge-row.ensures,
     )
 
 same_length : tie.Need-same-length invariant-loop decreases-loop
@@ -117,7 +117,7 @@ returns c =
     record {
       leaves =
           rows_done (new s) _ _ _ a.dst.now l.y l.invariant.0 c.if1.false
-          ∙ painted-sides a.dst.now a.dst-geometry (new s) s.requires.1.1.0 s.requires.1.1.1;
+          ∙ painted_sides a.dst.now a.dst-geometry (new s) s.requires.1.1.0 s.requires.1.1.1;
       dark = r.dark;
       light = r.light;
       skipped = r.skipped;

@@ -6,19 +6,19 @@ use native.Mathlib.Omega.{arith}
 use mathlib.Core.Path.{◌≡◌, ◌∙◌}
 use lib.ListN.{length, get_or, length-set}
 use Rattle.image.specs.Layout.{side_limit}
-use Rattle.image.specs.RowLaws.{row-long, row-picture}
+use Rattle.image.specs.RowLaws.{row_long, row_picture}
 use Rattle.imgproc.specs.Sums.{squared}
 use Rattle.imgproc.specs.Tables.{pixels_of}
 use Rattle.imgproc.proofs.threshold.tables.Entries.{
   RowSoFar,
   rows_fit,
-  pixel-byte,
-  box-small,
-  row-start,
-  row-end,
+  pixel_byte,
+  box_small,
+  row_start,
+  row_end,
   row_step,
-  above-sum,
-  above-square,
+  above_sum,
+  above_square,
   s_small,
   q_small,
 }
@@ -49,7 +49,7 @@ start t = t.before.before.before.before.before.before.before.before
 -- each pixel is a byte
 bytes : (t : tie.Then1 invariant-loop decreases-loop) (i j : ℕ) → i < (start t).args.geometry.width → j < (start t).args.geometry.height → pixels (start t) i j ≤ 255
 bytes t =
-    pixel-byte (start t).args.src.now (start t).args.geometry
+    pixel_byte (start t).args.src.now (start t).args.geometry
     (λ i. omega (arith, t.before.before.before.before.before.before.before.shared-slice-known.given i))
 
 -- the byte that is read is pixel (x, y)
@@ -57,7 +57,7 @@ value-is : (t : tie.Then1 invariant-loop decreases-loop)
     → get_or t.before.before.before.row.result.now t.before.before.loop.x 0 ≡ pixels (start t) t.before.before.loop.x (start t).args.y
 value-is t =
     let s = start t in
-    row-picture s.args.src.now s.args.geometry s.pre.0 s.args.y s.pre.1.0
+    row_picture s.args.src.now s.args.geometry s.pre.0 s.args.y s.pre.1.0
     t.before.before.before.row.ensures.bytes t.before.before.loop.x t.if1.true
 
 -- it and its square are small
@@ -81,25 +81,25 @@ sums-small t =
     )
 
 -- and the entries above
-above-small :
+above_small :
     (t : tie.Then1 invariant-loop decreases-loop)
     → let s = start t in
     let l = t.before.before.loop in
     let wide = s.args.geometry.width + 1 in
     (get_or l.workspace (s.args.at + (s.args.y * wide + (l.x + 1))) 0 ≤ 65025 * side_limit * side_limit)
     × (get_or l.workspace (s.args.at + wide * (s.args.geometry.height + 1) + (s.args.y * wide + (l.x + 1))) 0 ≤ 65025 * side_limit * side_limit)
-above-small t =
+above_small t =
     let s = start t in
     let g = s.args.geometry in
     let l = t.before.before.loop in
     let k = s.pre.0 in
     let m = s.pre.1.0 in
     let x1 : l.x + 1 ≤ g.width = omega (arith, t.if1.true) in (
-      rw (above-sum (pixels s) _ _ _ _ m _ l.workspace _ _ _ l.invariant t.if1.true)
-          (box-small (pixels s) g.width g.height (l.x + 1) s.args.y
+      rw (above_sum (pixels s) _ _ _ _ m _ l.workspace _ _ _ l.invariant t.if1.true)
+          (box_small (pixels s) g.width g.height (l.x + 1) s.args.y
           (λ i j a b. le_trans (bytes t i j a b) (omega arith)) x1 (le_of_lt m) k.small_width k.small_height),
-      rw (above-square (pixels s) _ _ _ _ m _ l.workspace _ _ _ l.invariant t.if1.true)
-          (box-small (squared (pixels s)) g.width g.height (l.x + 1) s.args.y
+      rw (above_square (pixels s) _ _ _ _ m _ l.workspace _ _ _ l.invariant t.if1.true)
+          (box_small (squared (pixels s)) g.width g.height (l.x + 1) s.args.y
           (λ i j a b. mul-le-mul (bytes t i j a b) (bytes t i j a b)) x1 (le_of_lt m) k.small_width
           k.small_height),
     )
@@ -148,7 +148,7 @@ slice-write-workspace-2 : tie.Need-slice-write-workspace-2 invariant-loop decrea
 slice-write-workspace-2 c = simp length-set (omega (arith, fits c.before.before.before.before.before))
 
 loop-holds : tie.Need-loop-init invariant-loop decreases-loop
-loop-holds c = let s = c.before.before.before.before.before in row-start (pixels s) _ _ _ _ s.requires.1.0 s.args.workspace.now s.requires.1.1
+loop-holds c = let s = c.before.before.before.before.before in row_start (pixels s) _ _ _ _ s.requires.1.0 s.args.workspace.now s.requires.1.1
 
 shared-slice-read-value : tie.Need-shared-slice-read-value invariant-loop decreases-loop
 shared-slice-read-value c =
@@ -156,7 +156,7 @@ shared-slice-read-value c =
     let s = start t in
     omega (
       arith,
-      row-long s.args.src.now s.args.geometry s.pre.0 s.args.y s.pre.1.0 t.before.before.before.row.ensures.bytes,
+      row_long s.args.src.now s.args.geometry s.pre.0 s.args.y s.pre.1.0 t.before.before.before.row.ensures.bytes,
       t.if1.true,
     )
 
@@ -188,7 +188,7 @@ slice-read-s : tie.Need-slice-read-s invariant-loop decreases-loop
 slice-read-s c = omega (arith, fits (start c.before.before), long c.before.before, c.before.before.if1.true)
 
 add-s-3 : tie.Need-overflow-add-s-3 invariant-loop decreases-loop
-add-s-3 c = omega (arith, value-small c.before.before, sums-small c.before.before, above-small c.before.before)
+add-s-3 c = omega (arith, value-small c.before.before, sums-small c.before.before, above_small c.before.before)
 
 add-q : tie.Need-overflow-add-q invariant-loop decreases-loop
 add-q c = omega (arith, fits (start c.before.before), long c.before.before, c.before.before.if1.true)
@@ -203,7 +203,7 @@ slice-read-q : tie.Need-slice-read-q invariant-loop decreases-loop
 slice-read-q c = omega (arith, fits (start c.before.before.before), long c.before.before.before, c.before.before.before.if1.true)
 
 add-q-3 : tie.Need-overflow-add-q-3 invariant-loop decreases-loop
-add-q-3 c = omega (arith, value-small c.before.before.before, sums-small c.before.before.before, above-small c.before.before.before)
+add-q-3 c = omega (arith, value-small c.before.before.before, sums-small c.before.before.before, above_small c.before.before.before)
 
 add-workspace-3 : tie.Need-overflow-add-workspace-3 invariant-loop decreases-loop
 add-workspace-3 c = omega (arith, fits (start c.before.before.before), long c.before.before.before, c.before.before.before.if1.true)
@@ -247,7 +247,7 @@ returns : tie.Need-returns invariant-loop decreases-loop
 returns c =
     let s = c.before.before.before.before.before.before.before.before in
     let l = c.before.before.loop in
-    row-end (pixels s) _ _ _ _ s.requires.1.0 _ l.workspace _ _ _ l.invariant c.if1.false
+    row_end (pixels s) _ _ _ _ s.requires.1.0 _ l.workspace _ _ _ l.invariant c.if1.false
 
 pub table-row-spec : {M : Type 1} → statement M
 table-row-spec =

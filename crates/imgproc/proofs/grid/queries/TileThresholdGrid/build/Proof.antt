@@ -1,6 +1,6 @@
 -- `build` meets its contract. Assumes nothing.
 use Rattle.imgproc.specs.GridCalls.{BuildLent}
-use Rattle.imgproc.proofs.grid.Building.{layout-refused, kept, rest-refused, ready, built}
+use Rattle.imgproc.proofs.grid.Building.{layout_refused, kept, rest_refused, ready, built}
 use borrow.Author.Rules.{rules}
 use Rattle.imgproc.proofs.grid.queries.TileThresholdGrid.build.Statement.{statement}
 use Rattle.imgproc.proofs.grid.queries.TileThresholdGrid.build.Tie as tie
@@ -34,7 +34,7 @@ returns : tie.Need-returns
 returns c =
     let l = c.before.before.before in
     let a = l.before.before.before.before.before in
-    layout-refused (lent a) l.validate-layout.ensures c.before.enum_told.given.1 c.refusal.ensures
+    layout_refused (lent a) l.validate-layout.ensures c.before.enum_told.given.1 c.refusal.ensures
 
 check-build-requires : tie.Need-check-build-requires
 check-build-requires c κs =
@@ -50,7 +50,7 @@ returns_2 c =
     let d = c.before.before.before in
     let l = d.before.before.before.before in
     let a = l.before.before.before.before.before in
-    rest-refused (lent a) l.validate-layout.ensures d.before.before.layout.given.1 d.check-build.ensures c.before.check.given.1
+    rest_refused (lent a) l.validate-layout.ensures d.before.before.layout.given.1 d.check-build.ensures c.before.check.given.1
 
 enum-told-2 : tie.Need-enum-told-2
 enum-told-2 c = search rules

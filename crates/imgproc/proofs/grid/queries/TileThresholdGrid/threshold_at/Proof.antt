@@ -5,7 +5,7 @@ use lib.ListN.{length, get_or}
 use Rattle.imgproc.specs.declared.Check.{Check}
 use Rattle.imgproc.specs.Refusals.{first}
 use Rattle.imgproc.specs.GridCalls.{pixel_conditions, tile_of}
-use Rattle.imgproc.proofs.grid.queries.Grids.{pixel-within, answer_refused, answer_there}
+use Rattle.imgproc.proofs.grid.queries.Grids.{pixel_within, answer_refused, answer_there}
 use borrow.Author.Rules.{rules}
 use Rattle.imgproc.proofs.grid.queries.TileThresholdGrid.threshold_at.Statement.{statement}
 use Rattle.imgproc.proofs.grid.queries.TileThresholdGrid.threshold_at.Tie as tie
@@ -35,7 +35,7 @@ returns c =
     answer_refused (check s) (tile s) c.before.before.before.pixel-place.ensures _ c.before.enum_told.given.1 c.place-refusal.ensures
 
 shared-slice-read-t10 : tie.Need-shared-slice-read-t10
-shared-slice-read-t10 c = pixel-within _ _ _ _ _ (sym c.before.before.before.before.pixel-place.ensures ∙ c.before.before.place.given.1)
+shared-slice-read-t10 c = pixel_within _ _ _ _ _ (sym c.before.before.before.before.pixel-place.ensures ∙ c.before.before.place.given.1)
 
 returns_2 : tie.Need-returns-2
 returns_2 c =
