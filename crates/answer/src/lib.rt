@@ -1,5 +1,7 @@
 // Answers an input with one line: the counts of the reading of the picture that it is, or a refusal. No public call has
 // a condition.
+#![tactic(auto)]
+
 ghost use Rattle.std.specs.Prelude.{◌≡◌};
 ghost use Rattle.answer.specs.Answer.{settings, answer_of, AnswersPicture, AnswersInput};
 ghost use Rattle.answer.specs.Program.{program_line, AnswersAndMarks, ReadPart, PrintsStart};

@@ -1,5 +1,7 @@
 // Reads a picture as the program `reading` does, writes the same line, and draws under it the rows of the destination:
 // '#' for each pixel that is judged dark, '.' for every other. For an input that is refused it draws nothing.
+#![tactic(auto)]
+
 ghost use Rattle.std.specs.Prelude.{◌+◌, ◌*◌, ◌≤◌, ◌<◌, ◌≡◌, length};
 ghost use Rattle.image.specs.Plane.{pixel};
 ghost use Rattle.answer.specs.Program.{Prints, PrintsStart};

@@ -1,5 +1,7 @@
 // Grey pictures. A picture is a lent byte slice and a geometry by value: pixel (x, y) is the byte at y * stride + x,
 // and the last row needs no padding. No public call has a condition: a picture that its slice does not hold is refused.
+#![tactic(auto)]
+
 ghost use Rattle.std.specs.Prelude.{◌≡◌, ◌+◌, ◌*◌, ◌≤◌, length};
 ghost use Rattle.image.specs.Layout.{layout_of, pixel_layout, row_layout, refusal_of, number_of, layout_answer, Kept};
 ghost use Rattle.image.specs.Pixel.{pixel_answer, written_answer, value_in, Sets};
@@ -12,7 +14,7 @@ ghost use Rattle.image.specs.Plane.{picture, painted_on, part, overwritten};
 pub const MAX_SIDE: usize = 4096;
 
 // Where a picture lies in its slice: `height` rows of `width` bytes, and row y starts at y * stride.
-#[derive(Drop)]
+#[derive(Clone, Copy)]
 pub struct Geometry {
     pub width: usize,
     pub height: usize,
@@ -20,7 +22,7 @@ pub struct Geometry {
 }
 
 // Why a picture, or a place in it, is refused.
-#[derive(Drop)]
+#[derive(Clone, Copy)]
 pub enum LumaError {
     EmptyDimensions,
     StrideTooSmall,
@@ -30,21 +32,21 @@ pub enum LumaError {
 }
 
 // A layout that was checked: the geometry, or why it is refused.
-#[derive(Drop)]
+#[derive(Clone, Copy)]
 pub enum Layout {
     Valid(Geometry),
     Invalid(LumaError),
 }
 
 // What `get` answers: the pixel, or why it is refused.
-#[derive(Drop)]
+#[derive(Clone, Copy)]
 pub enum Pixel {
     Value(u8),
     Refused(LumaError),
 }
 
 // What `set` answers: that the pixel is written, or why it is refused.
-#[derive(Drop)]
+#[derive(Clone, Copy)]
 pub enum Written {
     Done,
     Refused(LumaError),
@@ -52,7 +54,7 @@ pub enum Written {
 
 // What `pack` and `unpack` answer: that the rows are copied, or why they are not. WorkspaceTooSmall says that the
 // packed plane does not lie in the workspace.
-#[derive(Drop)]
+#[derive(Clone, Copy)]
 pub enum Copied {
     Done,
     Refused(LumaError),

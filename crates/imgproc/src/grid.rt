@@ -20,7 +20,7 @@ use image::{Geometry, Layout};
 pub use queries::{TileSkip, TileThreshold, TileThresholdGrid};
 
 // A build answers with the tile counts, or with its refusal.
-#[derive(Drop)]
+#[derive(Clone, Copy)]
 pub enum Built {
     Tiles(usize, usize),
     Refused(ImgProcError),

@@ -22,7 +22,7 @@ use crate::{Check, ImgProcError};
 use image::{Geometry, Layout};
 
 // The settings of a division.
-#[derive(Drop)]
+#[derive(Clone, Copy)]
 pub struct BackgroundDivideConfig {
     pub structuring_element: usize,
     pub target_luma: u8,

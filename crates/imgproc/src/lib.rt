@@ -1,4 +1,6 @@
 // Operators on grey pictures. This file says why a call is refused: the kinds, and their numbers.
+#![tactic(auto)]
+
 pub mod grid;
 pub mod illumination;
 pub mod morphology;
@@ -12,7 +14,7 @@ ghost use Rattle.imgproc.specs.Refusals.{error_number};
 
 use image::{Layout, LumaError};
 
-#[derive(Drop)]
+#[derive(Clone, Copy)]
 pub enum ImgProcError {
     Image(LumaError),
     DimensionMismatch,
@@ -23,7 +25,7 @@ pub enum ImgProcError {
 }
 
 // Says whether a call goes on, or why not.
-#[derive(Drop)]
+#[derive(Clone, Copy)]
 pub enum Check {
     Accepted,
     Refused(ImgProcError),

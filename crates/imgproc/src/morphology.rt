@@ -14,7 +14,7 @@ use crate::morphology::sweeps::Planes;
 use crate::morphology::tally::{Tally, start};
 use image::{Geometry, Layout};
 
-#[derive(Drop)]
+#[derive(Clone, Copy)]
 enum Operation {
     Erode,
     Dilate,
@@ -23,7 +23,7 @@ enum Operation {
 }
 
 // What a call answers: the tally of the comparisons that it made, or its refusal.
-#[derive(Drop)]
+#[derive(Clone, Copy)]
 pub enum Compared {
     Comparisons(Tally),
     Refused(ImgProcError),

@@ -24,7 +24,7 @@ use image::{Geometry, Layout};
 pub const PLANES: usize = 9;
 
 // The pixels of each kind, and the tally of the comparisons.
-#[derive(Drop)]
+#[derive(Clone, Copy)]
 pub struct ReadingCounts {
     pub dark: u64,
     pub light: u64,
@@ -33,7 +33,7 @@ pub struct ReadingCounts {
 }
 
 // What a reading answers: its four counts, or its refusal.
-#[derive(Drop)]
+#[derive(Clone, Copy)]
 pub enum Read {
     Counts(ReadingCounts),
     Refused(ImgProcError),

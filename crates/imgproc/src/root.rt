@@ -40,7 +40,7 @@ fn digits(m: u64) -> u64
 }
 
 // A value above zero: m * 2^e of the square of the smallest value, with m of 53 digits.
-#[derive(Drop)]
+#[derive(Clone, Copy)]
 struct Scaled {
     m: u64,
     e: u64,

@@ -25,7 +25,7 @@ use crate::{Check, ImgProcError, reach};
 use image::{Geometry, Layout};
 
 // Settings of a binarization. k is given in thousandths.
-#[derive(Drop)]
+#[derive(Clone, Copy)]
 pub struct SauvolaConfig {
     pub radius: usize,
     pub k_milli: u32,
@@ -35,7 +35,7 @@ pub struct SauvolaConfig {
 }
 
 // A binarization answers that it is done, or with its refusal.
-#[derive(Drop)]
+#[derive(Clone, Copy)]
 pub enum Binarized {
     Done,
     Refused(ImgProcError),

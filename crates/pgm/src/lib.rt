@@ -1,5 +1,7 @@
 // The input and the answer of a program on grey pictures, as bytes. A picture comes as "P5 w h 255", a line feed and
 // w × h bytes, and any other form is refused; an answer is one line of decimal text. No public call has a condition.
+#![tactic(auto)]
+
 ghost use Rattle.std.specs.Prelude.{◌+◌, ◌≤◌, ◌≡◌, [], ◌∷◌, ◌++◌, length, get_or};
 ghost use Rattle.pgm.specs.Decimal.{decimal};
 ghost use Rattle.pgm.specs.Form.{parsed_answer};
@@ -14,14 +16,14 @@ pub const SIDE_LIMIT: usize = 60;
 pub const LINE_ROOM: usize = 128;
 
 // What `parse` answers: the width, the height and where the pixels start; or that the input has another form.
-#[derive(Drop)]
+#[derive(Clone, Copy)]
 pub enum Parsed {
     Picture(usize, usize, usize),
     Malformed,
 }
 
 // What `read_side` answers: a side and the place after the space that ends it; or that no side stands there.
-#[derive(Drop)]
+#[derive(Clone, Copy)]
 enum Side {
     Number(usize, usize),
     Malformed,

@@ -3,7 +3,7 @@
 use std::num::{wrapping_add_usize, wrapping_sub_usize};
 
 // The part of a case's numbers that lists a slice, from one place to another. An empty part stands for noise.
-#[derive(Drop)]
+#[derive(Clone, Copy)]
 pub struct Part(pub usize, pub usize);
 
 // Gives the first state of a seed's noise.

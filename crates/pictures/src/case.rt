@@ -11,7 +11,7 @@ use crate::{buffers, calls, numbers, reply};
 use std::num::wrapping_add_usize;
 
 // A case has its call, the answer, the seed of its noise, and the parts of the line that list bytes.
-#[derive(Drop)]
+#[derive(Clone, Copy)]
 struct Case {
     call: Numbers,
     answer: Answer,

@@ -1,5 +1,7 @@
 // Replays the lists that its arguments name against the libraries, and writes a line for each: its name, how many cases
 // it has, how many came out wrong, and the line of the first of those.
+#![tactic(auto)]
+
 mod buffers;
 mod calls;
 mod case;

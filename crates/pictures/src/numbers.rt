@@ -4,7 +4,7 @@ use std::num::wrapping_add_usize;
 
 // A reader knows the next byte, the place of its next number in the array, what it has read of that number, and whether
 // the text had the form so far.
-#[derive(Drop)]
+#[derive(Clone, Copy)]
 pub struct Reader {
     pub at: usize,
     pub count: usize,

@@ -4,7 +4,7 @@ use std::num::wrapping_add_usize;
 
 // Counts the lines that were read, the cases in them and the wrong ones, and keeps the line of the first wrong one. The
 // noise of a case has five seeds, and the first is eight above that of the case before it.
-#[derive(Drop)]
+#[derive(Clone, Copy)]
 pub struct Score {
     line: usize,
     seed: usize,

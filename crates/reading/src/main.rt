@@ -1,5 +1,7 @@
 // Reads a picture from standard input, "P5 w h 255", a line feed and w × h bytes, and writes one line: width, height,
 // dark, light, skipped and comparisons, or the number of a refusal.
+#![tactic(auto)]
+
 use libc::{STDIN_FILENO, STDOUT_FILENO};
 
 // Reads the first bytes of the input, answers them and writes the line.

@@ -10,7 +10,7 @@ use crate::grid::tiles::TileNumbers;
 use crate::grid::{base, tiles};
 
 // The two bytes of a tile.
-#[derive(Drop)]
+#[derive(Clone, Copy)]
 pub enum TileByte {
     Threshold,
     Skip,

@@ -3,21 +3,21 @@ ghost use Rattle.std.specs.Prelude.{◌≡◌};
 ghost use Rattle.imgproc.specs.Grid.{grid_defaults};
 
 // The two settings of the grid's Sauvola threshold.
-#[derive(Drop)]
+#[derive(Clone, Copy)]
 pub struct SauvolaFloats {
     pub k: f64,
     pub dynamic_range: f64,
 }
 
 // The two ways to work out the base of a tile's threshold.
-#[derive(Drop)]
+#[derive(Clone, Copy)]
 pub enum TileThresholdMethod {
     Midrange,
     Sauvola(SauvolaFloats),
 }
 
 // The settings of a grid.
-#[derive(Drop)]
+#[derive(Clone, Copy)]
 pub struct TileThresholdConfig {
     pub tile_width: usize,
     pub tile_height: usize,

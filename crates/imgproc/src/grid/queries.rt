@@ -22,7 +22,7 @@ use crate::{Check, ImgProcError};
 use image::LumaError;
 
 // The sizes of a built grid: the picture's sides, the tile sides and the tile counts.
-#[derive(Drop)]
+#[derive(Clone, Copy)]
 pub struct TileThresholdGrid {
     pub width: usize,
     pub height: usize,
@@ -33,21 +33,21 @@ pub struct TileThresholdGrid {
 }
 
 // A query answers with the stored threshold of a tile, or with its refusal.
-#[derive(Drop)]
+#[derive(Clone, Copy)]
 pub enum TileThreshold {
     Value(u8),
     Refused(ImgProcError),
 }
 
 // A query answers whether tiles are skipped, or with its refusal.
-#[derive(Drop)]
+#[derive(Clone, Copy)]
 pub enum TileSkip {
     Is(bool),
     Refused(ImgProcError),
 }
 
 // The place of a tile's byte, or the refusal of the query.
-#[derive(Drop)]
+#[derive(Clone, Copy)]
 pub(crate) enum TilePlace {
     At(usize),
     Refused(ImgProcError),

@@ -12,7 +12,7 @@ use crate::reach;
 use image::{Geometry, Layout};
 
 // The numbers of a set of pixels.
-#[derive(Drop)]
+#[derive(Clone, Copy)]
 pub struct TileNumbers {
     pub minimum: u8,
     pub maximum: u8,

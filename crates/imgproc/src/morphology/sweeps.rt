@@ -26,7 +26,7 @@ use crate::reach;
 
 // Tells a sweep where it works, by offsets of one workspace: it reads the plane at `from`, writes the plane at `to`,
 // and has its scratch at `spare`. Each plane has `height` rows of `width` samples.
-#[derive(Drop)]
+#[derive(Clone, Copy)]
 pub(crate) struct Planes {
     pub from: usize,
     pub to: usize,

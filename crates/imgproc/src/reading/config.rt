@@ -4,7 +4,7 @@ use crate::illumination::BackgroundDivideConfig;
 use crate::threshold::SauvolaConfig;
 
 // The settings of a reading; `opening_kernel` is document 01's m.
-#[derive(Drop)]
+#[derive(Clone, Copy)]
 pub struct ReadingConfig {
     pub division: BackgroundDivideConfig,
     pub opening_kernel: usize,

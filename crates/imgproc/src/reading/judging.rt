@@ -12,7 +12,7 @@ use crate::threshold::threshold_at_pixel;
 use image::Geometry;
 
 // What a pixel is judged: its tile may be skipped; else its value is at or below its threshold, or above it.
-#[derive(Drop)]
+#[derive(Clone, Copy)]
 pub enum Judgement {
     Dark,
     Light,
@@ -50,7 +50,7 @@ fn judge(
 }
 
 // The pixels that were judged dark, light and skipped.
-#[derive(Drop)]
+#[derive(Clone, Copy)]
 pub(crate) struct Judged {
     pub dark: u64,
     pub light: u64,
