@@ -2,3 +2,4 @@
 pub mod Ways
 pub mod Places
 pub mod Rooms
+pub mod Planes

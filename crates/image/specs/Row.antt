@@ -2,6 +2,7 @@
 -- Definitions only.
 use Rattle.std.specs.Prelude.{ℕ, ◌+◌, ◌*◌, ◌≡◌, List, [], length}
 use Rattle.std.specs.Borrow.{Bor}
+pub use denote.MutBor.{as_bor}
 use Rattle.image.specs.declared.Geometry.{Geometry}
 use Rattle.image.specs.declared.Layout.{Layout}
 use Rattle.image.specs.declared.Layout.TheVariants.{Valid, Invalid}
@@ -19,7 +20,8 @@ abbrev pub row_at : Layout → ℕ × ℕ → ℕ → ℕ × ℕ
 row_at (Valid g) place y = (place.0, y * g.stride + place.1)
 row_at (Invalid e) place y = place
 
--- the contract of `row` and `row_mut`, which hand out r of the lent slice d: its bytes, and its place
+-- the contract of `row` and `row_mut`, which hand out r of the lent slice d: its bytes, and its place. A slice that may
+-- be written is `as_bor` of its reference: the bytes and the place of that
 pub record Hands (d : Bor (List ℕ)) (g : Geometry) (y : ℕ) (r : Bor (List ℕ)) : Type 0 where
   pub bytes : r.now ≡ row_in (row_layout (length d.now) g y) d.now y
   pub place : r.ref_ptr ≡ row_at (row_layout (length d.now) g y) d.ref_ptr y

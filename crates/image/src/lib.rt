@@ -5,7 +5,7 @@
 ghost use Rattle.std.specs.Prelude.{◌≡◌, ◌+◌, ◌*◌, ◌≤◌, length};
 ghost use Rattle.image.specs.Layout.{layout_of, pixel_layout, row_layout, refusal_of, number_of, layout_answer, Kept};
 ghost use Rattle.image.specs.Pixel.{pixel_answer, written_answer, value_in, Sets};
-ghost use Rattle.image.specs.Row.{Hands};
+ghost use Rattle.image.specs.Row.{Hands, as_bor};
 ghost use Rattle.image.specs.Copy.{copied_answer, Packs, Unpacks};
 ghost use Rattle.image.specs.Answers.{answer_number};
 ghost use Rattle.image.specs.Plane.{picture, painted_on, part, overwritten};
@@ -197,7 +197,7 @@ pub fn row(data: &[u8], geometry: Geometry, y: usize) -> &[u8]
 
 // Hands out row y of a destination to be written; an empty part where `check_row` refuses.
 pub fn row_mut(data: &mut [u8], geometry: Geometry, y: usize) -> &mut [u8]
-    ensures { Hands «data».entry geometry y result }
+    ensures { Hands (as_bor «data».entry) geometry y (as_bor result) }
 {
     let Layout::Valid(g) = check_row(data.len(), geometry, y) else {
         return &mut data[0..0];

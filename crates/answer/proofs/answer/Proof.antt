@@ -2,10 +2,9 @@
 use borrow.Author.Rules.{rules}
 use mathlib.Core.Path.{refl}
 use Rattle.pgm.specs.ParseLaws.{parsed_as}
-use Rattle.answer.proofs.answer.Proof.Inputs.{pixels_start, answers_picture, answers_other}
+use Rattle.answer.proofs.Inputs.{pixels_start, answers_picture, answers_other}
 use Rattle.answer.proofs.answer.Statement.{statement}
 use Rattle.answer.proofs.answer.Tie as tie
-mod Inputs
 
 parse-requires : tie.Need-parse-requires
 parse-requires c κs = search rules

@@ -1,10 +1,9 @@
 -- `answer_and_mark` lends buffers that are long enough for any picture, so it answers with the program's line. Assumes nothing.
 use borrow.Author.Rules.{rules}
 use native.Mathlib.Omega.{arith}
-use Rattle.answer.proofs.answer_and_mark.Proof.Whole.{whole}
+use Rattle.answer.proofs.Whole.{whole}
 use Rattle.answer.proofs.answer_and_mark.Statement.{statement}
 use Rattle.answer.proofs.answer_and_mark.Tie as tie
-mod Whole
 
 slice-aggregate-answer : tie.Need-slice-aggregate-answer
 slice-aggregate-answer c = search rules

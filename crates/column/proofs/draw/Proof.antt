@@ -5,10 +5,9 @@ use mathlib.Core.Path.{refl, sym}
 use lib.Seq.{length-take-le}
 use Rattle.pgm.specs.declared.Parsed.TheVariants.{Malformed}
 use Rattle.pgm.specs.ParseLaws.{parsed_as}
-use Rattle.column.proofs.draw.Proof.Drawn.{lined, undrawn, undrawn_wide, undrawn_high, length-marks, room_rows, drawn}
+use Rattle.column.proofs.Drawn.{lined, undrawn, undrawn_wide, undrawn_high, length-marks, room_rows, drawn}
 use Rattle.column.proofs.draw.Statement.{statement}
 use Rattle.column.proofs.draw.Tie as tie
-mod Drawn
 
 slice-relend-prefix-answer-and-mark : tie.Need-slice-relend-prefix-answer-and-mark
 slice-relend-prefix-answer-and-mark c = search rules

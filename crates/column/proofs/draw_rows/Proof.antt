@@ -6,10 +6,9 @@ use mathlib.Core.List.{List}
 use Rattle.image.specs.Plane.{tabulate, overwritten}
 use Rattle.image.specs.PlaneLaws.{plane_tabulated}
 use Rattle.image.specs.WriteLaws.{written_none, written_more, length-written}
-use Rattle.column.proofs.draw_rows.Proof.Rows.{laid, inside}
+use Rattle.column.proofs.Rows.{laid, inside}
 use Rattle.column.proofs.draw_rows.Statement.{statement}
 use Rattle.column.proofs.draw_rows.Tie as tie
-mod Rows
 
 abbrev invariant-loop : tie.invariant-loop
 invariant-loop pixels width height out₀ at wide total i₀ out i = (i ≤ total) × (out ≡ overwritten at (tabulate (laid pixels width) i) out₀)

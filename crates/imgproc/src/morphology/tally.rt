@@ -6,13 +6,13 @@ ghost use Rattle.imgproc.specs.Tallies.{Raised, HasRoom, Stands};
 ghost use Rattle.imgproc.specs.Compared.{Compares};
 
 // How many times two samples were compared.
-#[derive(Drop)]
+#[derive(Clone, Copy)]
 pub struct Tally {
     comparisons: u64,
 }
 
 // The extreme of two samples, and the tally with that comparison in it. Nobody else can make one or exchange its parts.
-#[derive(Drop)]
+#[derive(Clone, Copy)]
 pub(crate) struct Met {
     tally: Tally,
     value: u8,

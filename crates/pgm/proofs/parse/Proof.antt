@@ -3,10 +3,9 @@ use borrow.Author.Rules.{rules}
 use native.Mathlib.Omega.{arith}
 use Rattle.pgm.specs.ParseLaws.{parsed_from_lem, picture_from}
 use Rattle.pgm.specs.declared.Parsed.TheVariants.{Malformed}
-use Rattle.pgm.proofs.parse.Proof.Counted.{header_as, no_header, header_inside, pixels_few, miscounted, formed}
+use Rattle.pgm.proofs.Counted.{header_as, no_header, header_inside, pixels_few, miscounted, formed}
 use Rattle.pgm.proofs.parse.Statement.{statement}
 use Rattle.pgm.proofs.parse.Tie as tie
-mod Counted
 
 read-header-requires : tie.Need-read-header-requires
 read-header-requires c κs = search rules

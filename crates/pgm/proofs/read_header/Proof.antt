@@ -3,10 +3,9 @@ use borrow.Author.Rules.{rules}
 use native.Mathlib.Omega.{arith}
 use borrow.Author.Tests.{not-true, not-false}
 use Rattle.pgm.specs.Form.{magic, ending}
-use Rattle.pgm.proofs.read_header.Proof.Headers.{stands_as, side_as, no_magic, no_width, no_height, no_ending, headed}
+use Rattle.pgm.proofs.Headers.{stands_as, side_as, no_magic, no_width, no_height, no_ending, headed}
 use Rattle.pgm.proofs.read_header.Statement.{statement}
 use Rattle.pgm.proofs.read_header.Tie as tie
-mod Headers
 
 slice-aggregate-stands : tie.Need-slice-aggregate-stands
 slice-aggregate-stands c = search rules

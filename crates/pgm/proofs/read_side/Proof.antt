@@ -3,11 +3,9 @@ use borrow.Author.Rules.{rules}
 use native.Mathlib.Omega.{arith}
 use Prim.Native.Nat.{◌/◌, ◌%◌, ◌<◌}
 use mathlib.Core.Path.{sym, ◌∙◌}
-use Rattle.pgm.proofs.read_side.Proof.Sides.{no_side, one_is, two_read}
+use Rattle.pgm.proofs.Sides.{no_side, one_is, two_read}
 use Rattle.pgm.proofs.read_side.Statement.{statement}
 use Rattle.pgm.proofs.read_side.Tie as tie
-mod Bytes
-mod Sides
 
 digit-at-requires : tie.Need-digit-at-requires
 digit-at-requires c κs = search rules

@@ -4,10 +4,9 @@ use Prim.Native.Nat.{ℕ, ◌+◌, ◌-◌, ◌≤◌, ◌<◌}
 use mathlib.Core.Path.{◌≡◌}
 use lib.ListN.{length, get_or}
 use borrow.Author.Count.{below_more}
-use Rattle.pgm.proofs.stands.Proof.Texts.{too_short, differs, agrees}
+use Rattle.pgm.proofs.Texts.{too_short, differs, agrees}
 use Rattle.pgm.proofs.stands.Statement.{statement}
 use Rattle.pgm.proofs.stands.Tie as tie
-mod Texts
 
 abbrev invariant-loop : tie.invariant-loop
 invariant-loop input at text i₀ i =

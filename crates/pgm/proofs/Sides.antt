@@ -10,7 +10,7 @@ use Rattle.pgm.specs.Decimal.{digit, decimal}
 use Rattle.pgm.specs.DecimalLaws.{small_or, decimal_one, decimal_two}
 use Rattle.pgm.specs.Form.{side_limit}
 use Rattle.pgm.specs.Steps.{ReadsSide}
-use Rattle.pgm.proofs.read_side.Proof.Bytes.{inside, from, stands_at, goes_on}
+use Rattle.pgm.proofs.Bytes.{inside, from, stands_at, goes_on}
 
 -- the code counts places from `at`: the bytes after the first are at + 1 and at + 2
 next_but_one : (at : ℕ) → at + 1 + 1 ≡ at + 2

@@ -1,0 +1,35 @@
+-- `row` hands out the row's own bytes where they stand, or an empty part. Assumes nothing.
+use native.Mathlib.Omega.{arith}
+use lib.ListN.{length}
+use mathlib.Core.Path.{refl}
+use Prim.Native.Nat.{◌+◌, ◌*◌, ◌≤◌}
+use Rattle.image.proofs.Places.{row_place_lem, row_empty, row_found}
+use Rattle.image.proofs.row.Goals as goal
+use Rattle.image.proofs.row.Goals.{In-Valid}
+
+pub returns-in_default : goal.returns-in_default
+returns-in_default c =
+    let a = c.args in
+    row_empty a.«data» a.geometry a.y c.check_row.ensures c.in_default.is refl refl
+
+-- the row lies in the slice
+place : (c : In-Valid) →
+    c.args.y * c.in-Valid.g.stride + c.in-Valid.g.width
+    ≤ length c.args.«data».now
+place c =
+    let a = c.args in
+    row_place_lem (length a.«data».now) a.geometry a.y c.check_row.ensures c.in-Valid.is
+
+pub overflow_mul-from : goal.overflow_mul-from
+overflow_mul-from c = omega (arith, place (goal.at.overflow_mul-from c).In-Valid)
+
+pub overflow_add-to : goal.overflow_add-to
+overflow_add-to c = omega (arith, place (goal.at.overflow_add-to c).In-Valid)
+
+pub slice_bounds-result-end-2 : goal.slice_bounds-result-end-2
+slice_bounds-result-end-2 c = place (goal.at.slice_bounds-result-end-2 c).In-Valid
+
+pub returns : goal.returns
+returns c =
+    let a = c.args in
+    row_found a.«data» a.geometry a.y c.check_row.ensures c.in-Valid.is refl refl
