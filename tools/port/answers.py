@@ -107,6 +107,13 @@ class Turn:
                 return inner, got[0], got[1]
         return None
 
+    @staticmethod
+    def assigned(tokens, i):
+        """Whether tokens[i] names a field in a record's text."""
+        after = [x for x in tokens[i + 1:i + 4] if not x.isspace()]
+        before = [x for x in tokens[max(0, i - 6):i] if not x.isspace()]
+        return bool(after and after[0] == "=" and before and before[-1] in "{;")
+
     def skip(self, tokens, i):
         depth = 0
         while i < len(tokens):
@@ -185,6 +192,10 @@ class Turn:
                 i += 1
                 continue
             m = re.match(rf"^({PATHCH}+)((?:\.{PATHCH}+)*)$", t)
+            if m and m[1] in env and not m[2] and self.assigned(tokens, i):
+                out.append(t)
+                i += 1
+                continue
             if m and m[1] in env:
                 root, place = env[m[1]]
                 fields = m[2].split(".")[1:]
@@ -193,7 +204,9 @@ class Turn:
                     n += 1
                 at = self.fn.up(place, n) if place else None
                 if n == len(fields):
-                    out.append(self.handed(root, at))
+                    before = [x for x in tokens[:i] if not x.isspace()]
+                    helper = before and before[-1].split(".")[0] in self.helpers
+                    out.append(self.handed(root, at) if helper or self.goal is None else root)
                 else:
                     out.append(self.path(root, at, fields[n:], env))
                 i += 1
@@ -303,7 +316,7 @@ def needed(found, text):
         for n in names:
             name = n.split(" as ")[-1].strip()
             pieces = [p for p in name.split("◌") if p]
-            if "◌" in name and all(p in toks for p in pieces) or name in toks:
+            if "◌" in name and all(p in toks or p in "()[]" for p in pieces) or name in toks or name in ("[]",) and "[]" in text:
                 keep.append(n)
         if keep:
             out.append(f"use {module}.{{{', '.join(keep)}}}")

@@ -1,0 +1,15 @@
+-- `write_bytes` meets its contract. The invariant: the bytes of the tiles passed are written. Assumes nothing.
+use Prim.Native.Nat.{◌-◌, ◌≤◌}
+use mathlib.Core.Path.{◌≡◌}
+use Rattle.image.specs.Plane.{tabulate, overwritten}
+use Rattle.imgproc.specs.Grid.{tiles_x_of, tiles_y_of}
+use Rattle.imgproc.specs.TileBytes.{byte_by}
+use Rattle.imgproc.proofs.grid.bytes.write_bytes.Given as goal
+
+abbrev pub invariant-loop-t : goal.invariant-loop-t
+invariant-loop-t l =
+    let numbers = around l.config l.at l.workspace (tiles_x_of l.config l.width) (tiles_y_of l.config l.height) in
+    (l.t ≤ l.total) × (l.bytes ≡ overwritten l.to (tabulate (λ k. byte_by l.which l.config (numbers k)) l.t) l.initial.bytes)
+
+abbrev pub decreases-loop-t : goal.decreases-loop-t
+decreases-loop-t l = l.total - l.t

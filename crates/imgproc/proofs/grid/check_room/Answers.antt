@@ -1,0 +1,20 @@
+-- `check_room` meets its contract. Assumes nothing.
+use borrow.Author.Tests.{lt-ltb, le-ltb}
+use Rattle.imgproc.specs.Refusals.{first}
+use Rattle.imgproc.proofs.grid.check_room.Goals as goal
+
+pub returns-then-room-count : goal.returns-then-room-count
+unfolding first
+returns-then-room-count c = simp (lt-ltb _ _ c.if-room-count.true)
+
+pub returns-then-threshold_room-count : goal.returns-then-threshold_room-count
+unfolding first
+returns-then-threshold_room-count c = simp (le-ltb _ _ c.if-room-count.false, lt-ltb _ _ c.if-threshold_room-count.true)
+
+pub returns-then-skip_room-count : goal.returns-then-skip_room-count
+unfolding first
+returns-then-skip_room-count c = simp (le-ltb _ _ c.if-room-count.false, le-ltb _ _ c.if-threshold_room-count.false, lt-ltb _ _ c.if-skip_room-count.true)
+
+pub returns : goal.returns
+unfolding first
+returns c = simp (le-ltb _ _ c.if-room-count.false, le-ltb _ _ c.if-threshold_room-count.false, le-ltb _ _ c.if-skip_room-count.false)

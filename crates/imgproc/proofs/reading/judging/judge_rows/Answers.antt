@@ -1,0 +1,97 @@
+use Prim.Native.Nat.{ℕ, ◌+◌, ◌*◌, ◌≤◌, ◌<◌}
+use native.Mathlib.Omega.{arith}
+use mathlib.Core.Path.{◌≡◌, refl, sym, ◌∙◌, subst}
+use mathlib.Core.List.{List}
+use lib.ListN.{length}
+use Rattle.image.specs.LayoutLaws.{area_small}
+use Rattle.imgproc.specs.ReadingSteps.{marked_over}
+use Rattle.image.specs.Views.{painted_sides}
+use Rattle.image.specs.PaintRows.{rows_start, rows_same, rows_done, row_fits, part_long, rows_next, row_within_as}
+use Rattle.imgproc.proofs.reading.judging.Judgements.{RowsCounted, none_counted, next_counted, room_for_row, marked_pixel}
+use Rattle.imgproc.proofs.reading.judging.judge_rows.Goals as goal
+use Rattle.imgproc.proofs.reading.judging.judge_rows.Goals.{In-loop-y, Start}
+
+abbrev new : Start → List ℕ
+new s = marked_over s.args.config s.args.packed.width s.args.packed.height s.args.opened.now
+
+-- the destination's rows are as wide as the picture
+wide : (s : Start) → (0 < s.args.packed.width) × (s.args.packed.width ≤ s.args.dst-geometry.stride)
+wide s = (s.requires.0.tables.layout.wide, omega (arith, s.requires.1.0.stride, s.requires.1.1.0))
+
+-- row y of the destination
+within : (t : In-loop-y)
+    → let a = t.args in t.loop-y.y * a.dst-geometry.stride + a.packed.width ≤ length a.dst.now
+within t = row_within_as t.requires.1.0 t.requires.1.1.0 t.requires.1.1.1 t.loop-y.y t.loop-y-test.true
+
+-- TURN: a helper hands on Start; a helper hands on Start; a helper hands on Start
+fits : (t : In-loop-y)
+    → let a = t.args in t.loop-y.y * a.dst-geometry.stride + a.packed.width ≤ length t.loop-y.dst
+fits t =
+    let l = t.loop-y in
+    row_fits (new t.Start) _ _ _ t.args.dst.now l.y l.invariant.0 (wide t.Start).0 (wide t.Start).1 (within t)
+
+pub loop-y-init : goal.loop-y-init
+loop-y-init c =
+    (rows_start (new (goal.at.loop-y-init c).Start) _ _ _ _, none_counted (wide (goal.at.loop-y-init c).Start).0 refl refl refl)
+
+pub overflow_mul-from : goal.overflow_mul-from
+overflow_mul-from c = omega (arith, within (goal.at.overflow_mul-from c).In-loop-y)
+
+pub overflow_add-to : goal.overflow_add-to
+overflow_add-to c = omega (arith, within (goal.at.overflow_add-to c).In-loop-y)
+
+pub slice_bounds-judge_row-end : goal.slice_bounds-judge_row-end
+slice_bounds-judge_row-end c = fits (goal.at.slice_bounds-judge_row-end c).In-loop-y
+
+pub judge_row-counts-requires : goal.judge_row-counts-requires
+judge_row-counts-requires c =
+    let l = c.loop-y in
+    let a = c.args in (
+      c.requires.0,
+      (
+        c.loop-y-test.true,
+        (
+          part_long (new (goal.at.judge_row-counts-requires c).Start) _ _ _ a.dst.now l.y l.invariant.0 (wide (goal.at.judge_row-counts-requires c).Start).0 (wide (goal.at.judge_row-counts-requires c).Start).1 (within (goal.at.judge_row-counts-requires c).In-loop-y),
+          room_for_row (wide (goal.at.judge_row-counts-requires c).Start).0 l.invariant.1 c.loop-y-test.true (area_small c.requires.0.tables.layout),
+        ),
+      ),
+    )
+
+pub overflow_add-y : goal.overflow_add-y
+overflow_add-y c =
+    omega (arith, c.loop-y-test.true, c.requires.0.tables.layout.small_height)
+
+pub loop-y-smaller : goal.loop-y-smaller
+loop-y-smaller c =  omega (arith, c.loop-y-test.true)
+
+pub loop-y-preserved : goal.loop-y-preserved
+loop-y-preserved c =
+    let l = c.loop-y in
+    let a = c.args in (
+      rows_next (new (goal.at.loop-y-preserved c).Start) _ _ _ a.dst.now l.y l.invariant.0 (wide (goal.at.loop-y-preserved c).Start).0 (wide (goal.at.loop-y-preserved c).Start).1 (within (goal.at.loop-y-preserved c).In-loop-y) c.judge_row-counts.new.out
+          (c.judge_row-counts.auto.out ∙ part_long (new (goal.at.loop-y-preserved c).Start) _ _ _ a.dst.now l.y l.invariant.0 (wide (goal.at.loop-y-preserved c).Start).0 (wide (goal.at.loop-y-preserved c).Start).1 (within (goal.at.loop-y-preserved c).In-loop-y))
+          (λ x u.
+          c.judge_row-counts.ensures.each x u
+          ∙ sym (marked_pixel a.config a.packed.width a.packed.height a.opened.now x l.y u c.loop-y-test.true))
+          c.loop-y-test.true,
+      next_counted (wide (goal.at.loop-y-preserved c).Start).0 l.invariant.1 c.judge_row-counts.ensures,
+    )
+
+pub shape_of-dst : goal.shape_of-dst
+shape_of-dst c =
+    let l = c.loop-y in rows_same (new (goal.at.shape_of-dst c).Start) _ _ _ c.args.dst.now l.y l.invariant.0
+
+pub returns : goal.returns
+returns c =
+    let l = c.loop-y in
+    let a = c.args in
+    let e : l.y ≡ a.packed.height = omega (arith, c.loop-y-test.false, l.invariant.0.upto) in
+    let r = subst (λ (n : ℕ). RowsCounted a.config a.packed a.opened.now l.counts n) e l.invariant.1 in
+    record {
+      leaves =
+          rows_done (new (goal.at.returns c).Start) _ _ _ a.dst.now l.y l.invariant.0 c.loop-y-test.false
+          ∙ painted_sides a.dst.now a.dst-geometry (new (goal.at.returns c).Start) c.requires.1.1.0 c.requires.1.1.1;
+      dark = r.dark;
+      light = r.light;
+      skipped = r.skipped;
+    }
