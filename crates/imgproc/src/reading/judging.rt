@@ -30,8 +30,8 @@ fn judge(
     x: usize,
     y: usize,
 ) -> Judgement
-    requires judge_ready { JudgeReady opened.now packed skips.now workspace.now at config }
-    requires x_lt_width { (x < packed.width) × (y < packed.height) }
+    requires ready { JudgeReady opened.now packed skips.now workspace.now at config }
+    requires inside { (x < packed.width) × (y < packed.height) }
     ensures { result ≡ judged_over config packed.width packed.height opened.now x y }
 {
     let grid = config.grid;
@@ -69,8 +69,8 @@ fn judge_row(
     y: usize,
     out: &mut [u8],
 ) -> Judged
-    requires judge_ready { JudgeReady opened.now packed skips.now workspace.now at config }
-    requires y_lt_height { (y < packed.height) × ((length out.old ≡ packed.width) × Room judged packed.width) }
+    requires ready { JudgeReady opened.now packed skips.now workspace.now at config }
+    requires row { (y < packed.height) × ((length out.old ≡ packed.width) × Room judged packed.width) }
     ensures { RowJudged judged config packed opened.now y result out.new }
 {
     let sauvola = config.sauvola;
@@ -109,8 +109,8 @@ fn judge_rows(
     dst: &mut [u8],
     dst_geometry: Geometry,
 ) -> Judged
-    requires judge_ready { JudgeReady opened.now packed skips.now workspace.now at config }
-    requires kept { Kept (length dst.old) dst_geometry
+    requires ready { JudgeReady opened.now packed skips.now workspace.now at config }
+    requires destination { Kept (length dst.old) dst_geometry
         × ((dst_geometry.width ≡ packed.width) × (dst_geometry.height ≡ packed.height)) }
     ensures { PictureJudged config packed opened.now
         dst.old
@@ -153,8 +153,8 @@ pub(crate) fn judge_picture(
     dst: &mut [u8],
     dst_geometry: Geometry,
 ) -> Judged
-    requires judge_room { JudgeRoom packed config marks bytes.now u64s.old }
-    requires kept { Kept (length dst.old) dst_geometry
+    requires ready { JudgeRoom packed config marks bytes.now u64s.old }
+    requires destination { Kept (length dst.old) dst_geometry
         × ((dst_geometry.width ≡ packed.width) × (dst_geometry.height ≡ packed.height)) }
     ensures { PictureJudged config packed (part 0 (packed.width * packed.height) bytes.now)
         dst.old

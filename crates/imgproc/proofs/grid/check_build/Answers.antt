@@ -17,7 +17,7 @@ returns-in_default c =
     c.in_default.is
     ∙ sym
     (then_refused (grid_settings a.config)
-    (grid_room (tile_count a.config a.geometry.width a.geometry.height) a.room a.threshold-room a.skip-room)
+    (grid_room (tile_count a.config a.geometry.width a.geometry.height) a.room a.threshold_room a.skip_room)
     (sym c.check_settings-settings.ensures ∙ c.in_default.is))
 
 -- settings that were accepted
@@ -44,9 +44,9 @@ returns c =
     let a = c.args in
     c.check_room.ensures
     ∙ ap
-    (λ (n : ℕ). first (grid_room n a.room a.threshold-room a.skip-room))
+    (λ (n : ℕ). first (grid_room n a.room a.threshold_room a.skip_room))
     (total (sized (goal.at.returns c).In-Accepted) c.tiles_along-tiles_x.ensures c.tiles_along-tiles_y.ensures)
     ∙ sym
     (then_accepted (grid_settings a.config)
-    (grid_room (tile_count a.config a.geometry.width a.geometry.height) a.room a.threshold-room a.skip-room)
+    (grid_room (tile_count a.config a.geometry.width a.geometry.height) a.room a.threshold_room a.skip_room)
     (sym c.check_settings-settings.ensures ∙ c.in-Accepted.is))

@@ -16,7 +16,7 @@ pub overflow_mul-value : goal.overflow_mul-value
 overflow_mul-value c =
     let a = c.args in
     let s : a.source ≤ 255 = omega arith in
-    let t : a.config.target_luma ≤ 255 = omega (arith, c.well-formed) in
+    let t : a.config.target_luma ≤ 255 = omega (arith, c.well_formed) in
     record { fits = omega (arith, mul-le-mul s t) }
 
 pub nonzero_div-value : goal.nonzero_div-value

@@ -10,7 +10,7 @@ use Rattle.imgproc.proofs.reading.reading.Goals.{Else-g-h-2}
 -- TURN: no field before.layout.given.0.0; no field before.target.given.0.0
 pair : (c : Else-g-h-2)
     → let a = c.args in
-    Pair (length a.src.now) a.src-geometry (length a.dst.now) a.dst-geometry
+    Pair (length a.src.now) a.src_geometry (length a.dst.now) a.dst_geometry
     c.before.layout.given.0.0
     c.before.target.given.0.0
 pair c = search pair_of

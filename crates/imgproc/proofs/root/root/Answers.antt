@@ -8,7 +8,7 @@ use Rattle.imgproc.proofs.root.root.Goals.{Start}
 
 -- what owning an `f64` tells: the format holds it
 held : (c : Start) → T (fits binary64 c.args.x)
-held c = subst T (sym c.well-formed.0.1) tt
+held c = subst T (sym c.well_formed.0.1) tt
 
 pub float_to_bits-b : goal.float_to_bits-b
 unfolding of_bits

@@ -15,18 +15,18 @@ abbrev new : Start → List ℕ
 new s = let g = s.args.geometry in binarized s.args.config g.width g.height (picture s.args.src.now g)
 
 -- the destination's rows are as wide as the picture
-wide : (s : Start) → (0 < s.args.geometry.width) × (s.args.geometry.width ≤ s.args.dst-geometry.stride)
+wide : (s : Start) → (0 < s.args.geometry.width) × (s.args.geometry.width ≤ s.args.dst_geometry.stride)
 wide s = (s.requires.ready.layout.wide, omega (arith, s.requires.pair.to.stride, s.requires.pair.wide))
 
 -- row y of the destination
 within : (t : In-loop-y)
-    → t.loop-y.y * t.args.dst-geometry.stride + t.args.geometry.width ≤ length t.args.dst.now
+    → t.loop-y.y * t.args.dst_geometry.stride + t.args.geometry.width ≤ length t.args.dst.now
 within t =
     row_within_as t.requires.pair.to (sym t.requires.pair.wide) (sym t.requires.pair.high) t.loop-y.y t.loop-y-test.true
 
 -- TURN: a helper hands on Start; a helper hands on Start; a helper hands on Start
 fits : (t : In-loop-y)
-    → t.loop-y.y * t.args.dst-geometry.stride + t.args.geometry.width ≤ length t.loop-y.dst
+    → t.loop-y.y * t.args.dst_geometry.stride + t.args.geometry.width ≤ length t.loop-y.dst
 fits t =
     let l = t.loop-y in
     row_fits (new t.Start) _ _ _ t.args.dst.now l.y l.invariant (wide t.Start).0 (wide t.Start).1 (within t)
@@ -78,4 +78,4 @@ pub returns : goal.returns
 returns c =
     let l = c.loop-y in
     rows_done (new (goal.at.returns c).Start) _ _ _ c.args.dst.now l.y l.invariant c.loop-y-test.false
-    ∙ painted_sides c.args.dst.now c.args.dst-geometry (new (goal.at.returns c).Start) (sym c.requires.pair.wide) (sym c.requires.pair.high)
+    ∙ painted_sides c.args.dst.now c.args.dst_geometry (new (goal.at.returns c).Start) (sym c.requires.pair.wide) (sym c.requires.pair.high)

@@ -11,7 +11,7 @@ use Rattle.imgproc.proofs.threshold.sauvola_into.Goals.{Else-g-d-2}
 -- TURN: no field before.layout.given.0.0; no field before.dst-layout.given.0.0
 pair : (c : Else-g-d-2)
     → let a = c.args in
-    Pair (length a.src.now) a.src-geometry (length a.dst.now) a.dst-geometry
+    Pair (length a.src.now) a.src_geometry (length a.dst.now) a.dst_geometry
     c.before.layout.given.0.0
     c.before.dst-layout.given.0.0
 pair c = search pair_of

@@ -29,7 +29,7 @@ returns c =
     let m = b.before.before.before.before in
     let o = m.before.before.before.before.before in
     let a = o.args in
-    builds a.method a.k a.dynamic-range o.ranges.threshold-offset refl m.method-of.ensures b.build.ensures c.built.ensures
+    builds a.method a.k a.dynamic_range o.ranges.threshold_offset refl m.method-of.ensures b.build.ensures c.built.ensures
 
 pub imgproc-tile-grid-build-spec : {M : Type 1} → statement M
 imgproc-tile-grid-build-spec =

@@ -14,13 +14,13 @@ returns c = search rules
 returns_2 : tie.Need-returns-2
 returns_2 c =
     let a = c.before.before.args in
-    ap (λ (n : ℕ). method_of n a.k a.dynamic-range) (sym c.if2.true)
+    ap (λ (n : ℕ). method_of n a.k a.dynamic_range) (sym c.if2.true)
 
 returns-3 : tie.Need-returns-3
 unfolding of_bits
 returns-3 c =
     let a = c.before.before.args in
-    other_method a.method a.k a.dynamic-range c.before.if1.false c.if2.false
+    other_method a.method a.k a.dynamic_range c.before.if1.false c.if2.false
 
 pub method-of-spec : {M : Type 1} → statement M
 method-of-spec = tie.close (tie.spec returns returns_2 returns-3)

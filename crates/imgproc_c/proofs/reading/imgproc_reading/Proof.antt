@@ -29,7 +29,7 @@ returns c =
     let m = b.before.before.before.before in
     let o = m.before.before.before.before.before in
     let a = o.args in
-    reads a.method a.k a.dynamic-range o.ranges.threshold-offset refl m.method-of.ensures b.reading.ensures c.read.ensures
+    reads a.method a.k a.dynamic_range o.ranges.threshold_offset refl m.method-of.ensures b.reading.ensures c.read.ensures
 
 pub imgproc-reading-spec : {M : Type 1} → statement M
 imgproc-reading-spec =

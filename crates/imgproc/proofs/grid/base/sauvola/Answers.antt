@@ -11,7 +11,7 @@ returns c =
     let a = c.args in
     c.rounded.ensures
     ∙ ap (count_to 255)
-    (sauvola_is a.sum a.sum-sq a.count a.k a.dynamic-range _ _ _
+    (sauvola_is a.sum a.sum_sq a.count a.k a.dynamic_range _ _ _
     c.mean-m.ensures
     c.variance.ensures
     c.root-s.ensures)

@@ -10,7 +10,7 @@ use Rattle.imgproc.proofs.grid.base.variance.Goals as goal
 
 pub int_to_float-v : goal.int_to_float-v
 unfolding in_float
-int_to_float-v c = le→leb c.args.sum-sq 9007199254740992 c.requires.1
+int_to_float-v c = le→leb c.args.sum_sq 9007199254740992 c.requires.1
 
 pub int_to_float-v-2 : goal.int_to_float-v-2
 unfolding in_float
@@ -21,13 +21,13 @@ unfolding of_bits
 returns-then-v c =
     let a = c.args in
     let m = c.mean-m in
-    let v = sub binary64 (div binary64 (whole a.sum-sq) (whole a.count)) (mul binary64 m.result m.result) in
-    sym (ap (λ (t : Bool). cond t (fin false 0 (pos 0)) v) c.if-v.true) ∙ variance_is a.sum a.sum-sq a.count m.result m.ensures
+    let v = sub binary64 (div binary64 (whole a.sum_sq) (whole a.count)) (mul binary64 m.result m.result) in
+    sym (ap (λ (t : Bool). cond t (fin false 0 (pos 0)) v) c.if-v.true) ∙ variance_is a.sum a.sum_sq a.count m.result m.ensures
 
 pub returns-else-v : goal.returns-else-v
 unfolding of_bits
 returns-else-v c =
     let a = c.args in
     let m = c.mean-m in
-    let v = sub binary64 (div binary64 (whole a.sum-sq) (whole a.count)) (mul binary64 m.result m.result) in
-    sym (ap (λ (t : Bool). cond t (fin false 0 (pos 0)) v) c.if-v.false) ∙ variance_is a.sum a.sum-sq a.count m.result m.ensures
+    let v = sub binary64 (div binary64 (whole a.sum_sq) (whole a.count)) (mul binary64 m.result m.result) in
+    sym (ap (λ (t : Bool). cond t (fin false 0 (pos 0)) v) c.if-v.false) ∙ variance_is a.sum a.sum_sq a.count m.result m.ensures

@@ -92,7 +92,7 @@ overflow_add-bytes c =
       total c.requires.0 c.tiles_along-tiles_x.ensures c.tiles_along-tiles_y.ensures,
       c.loop-t-test.true,
       c.requires.2,
-      c.well-formed.1.1.1.1.1.1.0,
+      c.well_formed.1.1.1.1.1.1.0,
     )
 
 pub bounds-bytes-to : goal.bounds-bytes-to

@@ -14,7 +14,7 @@ bytes c k = omega (arith, c.type_inv.row k)
 -- the sample at hand, and the sums before it
 -- TURN: a helper hands on After-shared_slice_known-1; a helper hands on After-shared_slice_known-1
 here : (c : After-max_of-maximum)
-    → (c.loop-x.sum ≤ 255 * side_limit) × (c.loop-x.sum-sq ≤ 65025 * side_limit)
+    → (c.loop-x.sum ≤ 255 * side_limit) × (c.loop-x.sum_sq ≤ 65025 * side_limit)
 here c =
     let l = c.loop-x in
     (omega (arith, sum_small l.invariant.2 l.invariant.0 (bytes c.After-shared_slice_known-1)), omega (arith, sum_sq_small l.invariant.2 l.invariant.0 (bytes c.After-shared_slice_known-1)))

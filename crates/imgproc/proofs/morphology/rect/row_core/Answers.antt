@@ -38,7 +38,7 @@ loop-y-smaller c =
 pub loop-y-preserved : goal.loop-y-preserved
 loop-y-preserved c =
     let at = c.before.before.before.before in
-    sweeping_more at.before.before.pre _ at.loop.inv (omega arith) c.sweep_strip-t.ensures
+    sweeping_more at.before.before.requires _ at.loop.inv (omega arith) c.sweep_strip-t.ensures
 
 pub shape_of-ws : goal.shape_of-ws
 shape_of-ws c = c.loop-y.invariant.kept.long

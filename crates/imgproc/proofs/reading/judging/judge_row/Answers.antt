@@ -15,18 +15,18 @@ loop-next-init c =
 -- the pixel at hand lies in the row
 inside : (c : In-loop-next) → c.loop-next.next < length c.loop-next.out
 inside c =
-    omega (arith, c.loop-next-test.true, c.loop-next.invariant.0.1, c.requires.1.1.0)
+    omega (arith, c.loop-next-test.true, c.loop-next.invariant.0.1, c.requires.row.1.0)
 
 -- and there is room to count it
 room : (c : In-loop-next) → Room c.loop-next.counts 1
 room c =
-    room_for_one c.loop-next-test.true c.loop-next.invariant.1 c.requires.1.1.1
+    room_for_one c.loop-next-test.true c.loop-next.invariant.1 c.requires.row.1.1
 
 pub overflow_add-next : goal.overflow_add-next
-overflow_add-next c =  omega (arith, c.loop-next-test.true, c.requires.0.tables.layout.small_width)
+overflow_add-next c =  omega (arith, c.loop-next-test.true, c.requires.ready.tables.layout.small_width)
 
 pub judge-judgement-requires : goal.judge-judgement-requires
-judge-judgement-requires c =  (c.requires.0, (c.loop-next-test.true, c.requires.1.0))
+judge-judgement-requires c =  (c.requires.ready, (c.loop-next-test.true, c.requires.row.0))
 
 pub overflow_add-counts : goal.overflow_add-counts
 overflow_add-counts c = record { fits = (room (goal.at.overflow_add-counts c).In-loop-next).dark }

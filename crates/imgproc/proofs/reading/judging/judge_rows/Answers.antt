@@ -15,17 +15,17 @@ abbrev new : Start → List ℕ
 new s = marked_over s.args.config s.args.packed.width s.args.packed.height s.args.opened.now
 
 -- the destination's rows are as wide as the picture
-wide : (s : Start) → (0 < s.args.packed.width) × (s.args.packed.width ≤ s.args.dst-geometry.stride)
-wide s = (s.requires.0.tables.layout.wide, omega (arith, s.requires.1.0.stride, s.requires.1.1.0))
+wide : (s : Start) → (0 < s.args.packed.width) × (s.args.packed.width ≤ s.args.dst_geometry.stride)
+wide s = (s.requires.ready.tables.layout.wide, omega (arith, s.requires.destination.0.stride, s.requires.destination.1.0))
 
 -- row y of the destination
 within : (t : In-loop-y)
-    → let a = t.args in t.loop-y.y * a.dst-geometry.stride + a.packed.width ≤ length a.dst.now
-within t = row_within_as t.requires.1.0 t.requires.1.1.0 t.requires.1.1.1 t.loop-y.y t.loop-y-test.true
+    → let a = t.args in t.loop-y.y * a.dst_geometry.stride + a.packed.width ≤ length a.dst.now
+within t = row_within_as t.requires.destination.0 t.requires.destination.1.0 t.requires.destination.1.1 t.loop-y.y t.loop-y-test.true
 
 -- TURN: a helper hands on Start; a helper hands on Start; a helper hands on Start
 fits : (t : In-loop-y)
-    → let a = t.args in t.loop-y.y * a.dst-geometry.stride + a.packed.width ≤ length t.loop-y.dst
+    → let a = t.args in t.loop-y.y * a.dst_geometry.stride + a.packed.width ≤ length t.loop-y.dst
 fits t =
     let l = t.loop-y in
     row_fits (new t.Start) _ _ _ t.args.dst.now l.y l.invariant.0 (wide t.Start).0 (wide t.Start).1 (within t)
@@ -47,19 +47,19 @@ pub judge_row-counts-requires : goal.judge_row-counts-requires
 judge_row-counts-requires c =
     let l = c.loop-y in
     let a = c.args in (
-      c.requires.0,
+      c.requires.ready,
       (
         c.loop-y-test.true,
         (
           part_long (new (goal.at.judge_row-counts-requires c).Start) _ _ _ a.dst.now l.y l.invariant.0 (wide (goal.at.judge_row-counts-requires c).Start).0 (wide (goal.at.judge_row-counts-requires c).Start).1 (within (goal.at.judge_row-counts-requires c).In-loop-y),
-          room_for_row (wide (goal.at.judge_row-counts-requires c).Start).0 l.invariant.1 c.loop-y-test.true (area_small c.requires.0.tables.layout),
+          room_for_row (wide (goal.at.judge_row-counts-requires c).Start).0 l.invariant.1 c.loop-y-test.true (area_small c.requires.ready.tables.layout),
         ),
       ),
     )
 
 pub overflow_add-y : goal.overflow_add-y
 overflow_add-y c =
-    omega (arith, c.loop-y-test.true, c.requires.0.tables.layout.small_height)
+    omega (arith, c.loop-y-test.true, c.requires.ready.tables.layout.small_height)
 
 pub loop-y-smaller : goal.loop-y-smaller
 loop-y-smaller c =  omega (arith, c.loop-y-test.true)
@@ -90,7 +90,7 @@ returns c =
     record {
       leaves =
           rows_done (new (goal.at.returns c).Start) _ _ _ a.dst.now l.y l.invariant.0 c.loop-y-test.false
-          ∙ painted_sides a.dst.now a.dst-geometry (new (goal.at.returns c).Start) c.requires.1.1.0 c.requires.1.1.1;
+          ∙ painted_sides a.dst.now a.dst_geometry (new (goal.at.returns c).Start) c.requires.destination.1.0 c.requires.destination.1.1;
       dark = r.dark;
       light = r.light;
       skipped = r.skipped;

@@ -45,7 +45,7 @@ value-small t =
 
 -- so are the row's sums
 -- TURN: a helper hands on Start; a helper hands on Start
-sums-small : (t : In-loop-x) → let l = t.loop-x in (l.sum ≤ 255 * l.x) × ((l.sum-sq ≤ 65025 * l.x) × (l.x < side_limit))
+sums-small : (t : In-loop-x) → let l = t.loop-x in (l.sum ≤ 255 * l.x) × ((l.sum_sq ≤ 65025 * l.x) × (l.x < side_limit))
 sums-small t =
     let l = t.loop-x in (
       s_small (pixels t.Start) _ _ _ _ t.requires.1.0 _ l.workspace _ _ _ l.invariant t.loop-x-test.true (bytes t),
