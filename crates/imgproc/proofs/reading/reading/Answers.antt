@@ -53,15 +53,6 @@ read_picture-requires c =
     let fit = room_says g c.args.config _ _ (sym c.check_room-room.ensures ∙ c.in_default-room.is) in
     record { pair = paired p; settings = y; bytes_fit = fit.0; u64s_fit = fit.1 }
 
-pub shape_of-dst : goal.shape_of-dst
-shape_of-dst c = c.read_picture.auto.dst
-
-pub shape_of-bytes : goal.shape_of-bytes
-shape_of-bytes c = c.read_picture.auto.bytes
-
-pub shape_of-u64s : goal.shape_of-u64s
-shape_of-u64s c = c.read_picture.auto.u64s
-
 pub returns : goal.returns
 returns c =
     done (pair (goal.at.returns c).Else-g-h-2)
