@@ -84,13 +84,13 @@ fn answer_picture(
 ) -> usize
     ensures { AnswersPicture width height pixels.now
         (record {
-          dst = dst.entry.now;
+          dst = dst.old;
           bytes = bytes.old;
           u64s = u64s.old;
           out = out.old;
         })
         result
-        (record { dst = dst.exit.now; bytes = bytes.new; u64s = u64s.new; out = out.new }) }
+        (record { dst = dst.new; bytes = bytes.new; u64s = u64s.new; out = out.new }) }
 {
     let geometry = Geometry {
         width: width,
@@ -113,13 +113,13 @@ pub fn answer(
 ) -> usize
     ensures { AnswersInput input.now
         (record {
-          dst = dst.entry.now;
+          dst = dst.old;
           bytes = bytes.old;
           u64s = u64s.old;
           out = out.old;
         })
         result
-        (record { dst = dst.exit.now; bytes = bytes.new; u64s = u64s.new; out = out.new }) }
+        (record { dst = dst.new; bytes = bytes.new; u64s = u64s.new; out = out.new }) }
 {
     let Parsed::Picture(width, height, at) = pgm::parse(input) else {
         return pgm::refused_line(MALFORMED, out);
