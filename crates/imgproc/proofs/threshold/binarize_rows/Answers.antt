@@ -24,12 +24,13 @@ within : (t : In-loop-y)
 within t =
     row_within_as t.requires.pair.to (sym t.requires.pair.wide) (sym t.requires.pair.high) t.loop-y.y t.loop-y-test.true
 
--- TURN: a helper hands on Start; a helper hands on Start; a helper hands on Start
 fits : (t : In-loop-y)
     → t.loop-y.y * t.args.dst_geometry.stride + t.args.geometry.width ≤ length t.loop-y.dst
 fits t =
     let l = t.loop-y in
-    row_fits (new t.Start) _ _ _ t.args.dst.now l.y l.invariant (wide t.Start).0 (wide t.Start).1 (within t)
+    let g = t.args.geometry in
+    row_fits (binarized t.args.config g.width g.height (picture t.args.src.now g)) _ _ _ t.args.dst.now l.y l.invariant
+    t.requires.ready.layout.wide (omega (arith, t.requires.pair.to.stride, t.requires.pair.wide)) (within t)
 
 pub loop-y-init : goal.loop-y-init
 loop-y-init c =  rows_start (new (goal.at.loop-y-init c).Start) _ _ _ _

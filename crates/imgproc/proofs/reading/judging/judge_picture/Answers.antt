@@ -38,10 +38,10 @@ slice_bounds-judge_rows-end-2 c =
 
 pub judge_rows-requires : goal.judge_rows-requires
 judge_rows-requires c =
-    (
-      judge_ready c.requires.ready (c.tiles_along.result * c.tiles_along-2.result) (count (goal.at.judge_rows-requires c).After-tiles_along-2) c.build_tables.ensures,
-      c.requires.destination,
-    )
+    record {
+      ready = judge_ready c.requires.ready (c.tiles_along.result * c.tiles_along-2.result) (count (goal.at.judge_rows-requires c).After-tiles_along-2) c.build_tables.ensures;
+      destination = c.requires.destination;
+    }
 
 pub returns : goal.returns
 returns c = c.judge_rows.ensures

@@ -26,7 +26,7 @@ pub overflow_add-next : goal.overflow_add-next
 overflow_add-next c =  omega (arith, c.loop-next-test.true, c.requires.ready.tables.layout.small_width)
 
 pub judge-judgement-requires : goal.judge-judgement-requires
-judge-judgement-requires c =  (c.requires.ready, (c.loop-next-test.true, c.requires.row.0))
+judge-judgement-requires c = record { ready = c.requires.ready; inside = (c.loop-next-test.true, c.requires.row.0) }
 
 pub overflow_add-counts : goal.overflow_add-counts
 overflow_add-counts c = record { fits = (room (goal.at.overflow_add-counts c).In-loop-next).dark }

@@ -23,12 +23,13 @@ within : (t : In-loop-y)
     → let a = t.args in t.loop-y.y * a.dst_geometry.stride + a.packed.width ≤ length a.dst.now
 within t = row_within_as t.requires.destination.0 t.requires.destination.1.0 t.requires.destination.1.1 t.loop-y.y t.loop-y-test.true
 
--- TURN: a helper hands on Start; a helper hands on Start; a helper hands on Start
 fits : (t : In-loop-y)
     → let a = t.args in t.loop-y.y * a.dst_geometry.stride + a.packed.width ≤ length t.loop-y.dst
 fits t =
     let l = t.loop-y in
-    row_fits (new t.Start) _ _ _ t.args.dst.now l.y l.invariant.0 (wide t.Start).0 (wide t.Start).1 (within t)
+    let a = t.args in
+    row_fits (marked_over a.config a.packed.width a.packed.height a.opened.now) _ _ _ a.dst.now l.y l.invariant.0
+    t.requires.ready.tables.layout.wide (omega (arith, t.requires.destination.0.stride, t.requires.destination.1.0)) (within t)
 
 pub loop-y-init : goal.loop-y-init
 loop-y-init c =
@@ -46,16 +47,18 @@ slice_bounds-judge_row-end c = fits (goal.at.slice_bounds-judge_row-end c).In-lo
 pub judge_row-counts-requires : goal.judge_row-counts-requires
 judge_row-counts-requires c =
     let l = c.loop-y in
-    let a = c.args in (
-      c.requires.ready,
-      (
+    let a = c.args in
+    let s = (goal.at.judge_row-counts-requires c).Start in
+    record {
+      ready = c.requires.ready;
+      row = (
         c.loop-y-test.true,
         (
-          part_long (new (goal.at.judge_row-counts-requires c).Start) _ _ _ a.dst.now l.y l.invariant.0 (wide (goal.at.judge_row-counts-requires c).Start).0 (wide (goal.at.judge_row-counts-requires c).Start).1 (within (goal.at.judge_row-counts-requires c).In-loop-y),
-          room_for_row (wide (goal.at.judge_row-counts-requires c).Start).0 l.invariant.1 c.loop-y-test.true (area_small c.requires.ready.tables.layout),
+          part_long (new s) _ _ _ a.dst.now l.y l.invariant.0 (wide s).0 (wide s).1 (within (goal.at.judge_row-counts-requires c).In-loop-y),
+          room_for_row (wide s).0 l.invariant.1 c.loop-y-test.true (area_small c.requires.ready.tables.layout),
         ),
-      ),
-    )
+      );
+    }
 
 pub overflow_add-y : goal.overflow_add-y
 overflow_add-y c =

@@ -22,16 +22,14 @@ abbrev pixels : Start → ℕ → ℕ → ℕ
 pixels s = pixels_of s.args.src.now s.args.geometry
 
 -- each pixel is a byte
--- TURN: a helper hands on Start
-bytes : (t : In-loop-x) (i j : ℕ) → i < t.args.geometry.width → j < t.args.geometry.height → pixels t.Start i j ≤ 255
+bytes : (t : In-loop-x) (i j : ℕ) → i < t.args.geometry.width → j < t.args.geometry.height → pixels_of t.args.src.now t.args.geometry i j ≤ 255
 bytes t =
     pixel_byte t.args.src.now t.args.geometry
     (λ i. omega (arith, t.type_inv.src i))
 
 -- the byte that is read is pixel (x, y)
--- TURN: a helper hands on Start
 value-is : (t : In-loop-x)
-    → get_or t.row-row.result.now t.loop-x.x 0 ≡ pixels t.Start t.loop-x.x t.args.y
+    → get_or t.row-row.result.now t.loop-x.x 0 ≡ pixels_of t.args.src.now t.args.geometry t.loop-x.x t.args.y
 value-is t =
     row_picture t.args.src.now t.args.geometry t.requires.0 t.args.y t.requires.1.0
     t.row-row.ensures.bytes t.loop-x.x t.loop-x-test.true
@@ -44,19 +42,17 @@ value-small t =
     rw (value-is t) (b, mul-le-mul b b)
 
 -- so are the row's sums
--- TURN: a helper hands on Start; a helper hands on Start
 sums-small : (t : In-loop-x) → let l = t.loop-x in (l.sum ≤ 255 * l.x) × ((l.sum_sq ≤ 65025 * l.x) × (l.x < side_limit))
 sums-small t =
     let l = t.loop-x in (
-      s_small (pixels t.Start) _ _ _ _ t.requires.1.0 _ l.workspace _ _ _ l.invariant t.loop-x-test.true (bytes t),
+      s_small (pixels_of t.args.src.now t.args.geometry) _ _ _ _ t.requires.1.0 _ l.workspace _ _ _ l.invariant t.loop-x-test.true (bytes t),
       (
-        q_small (pixels t.Start) _ _ _ _ t.requires.1.0 _ l.workspace _ _ _ l.invariant t.loop-x-test.true (bytes t),
+        q_small (pixels_of t.args.src.now t.args.geometry) _ _ _ _ t.requires.1.0 _ l.workspace _ _ _ l.invariant t.loop-x-test.true (bytes t),
         omega (arith, t.loop-x-test.true, t.requires.0.small_width),
       ),
     )
 
 -- and the entries above
--- TURN: a helper hands on Start; a helper hands on Start; a helper hands on Start; a helper hands on Start; a module or a definition over a place
 above_small :
     (t : In-loop-x)
     → let l = t.loop-x in
@@ -69,11 +65,11 @@ above_small t =
     let k = t.requires.0 in
     let m = t.requires.1.0 in
     let x1 : l.x + 1 ≤ g.width = omega (arith, t.loop-x-test.true) in (
-      rw (above_sum (pixels t.Start) _ _ _ _ m _ l.workspace _ _ _ l.invariant t.loop-x-test.true)
-          (box_small (pixels t.Start) g.width g.height (l.x + 1) t.args.y
+      rw (above_sum (pixels_of t.args.src.now t.args.geometry) _ _ _ _ m _ l.workspace _ _ _ l.invariant t.loop-x-test.true)
+          (box_small (pixels_of t.args.src.now t.args.geometry) g.width g.height (l.x + 1) t.args.y
           (λ i j a b. le_trans (bytes t i j a b) (omega arith)) x1 (le_of_lt m) k.small_width k.small_height),
-      rw (above_square (pixels t.Start) _ _ _ _ m _ l.workspace _ _ _ l.invariant t.loop-x-test.true)
-          (box_small (squared (pixels t.Start)) g.width g.height (l.x + 1) t.args.y
+      rw (above_square (pixels_of t.args.src.now t.args.geometry) _ _ _ _ m _ l.workspace _ _ _ l.invariant t.loop-x-test.true)
+          (box_small (squared (pixels_of t.args.src.now t.args.geometry)) g.width g.height (l.x + 1) t.args.y
           (λ i j a b. mul-le-mul (bytes t i j a b) (bytes t i j a b)) x1 (le_of_lt m) k.small_width
           k.small_height),
     )
@@ -145,7 +141,7 @@ pub bounds-workspace-at-in-loop-x : goal.bounds-workspace-at-in-loop-x
 bounds-workspace-at-in-loop-x c = omega (arith, fits (goal.at.bounds-workspace-at-in-loop-x c).Start, long (goal.at.bounds-workspace-at-in-loop-x c).In-loop-x, c.loop-x-test.true)
 
 pub overflow_add-s-in-loop-x-2 : goal.overflow_add-s-in-loop-x-2
-overflow_add-s-in-loop-x-2 c = omega (arith, value-small (goal.at.overflow_add-s-in-loop-x-2 c).In-loop-x, sums-small (goal.at.overflow_add-s-in-loop-x-2 c).In-loop-x, above_small c)
+overflow_add-s-in-loop-x-2 c = omega (arith, value-small (goal.at.overflow_add-s-in-loop-x-2 c).In-loop-x, sums-small (goal.at.overflow_add-s-in-loop-x-2 c).In-loop-x, above_small (goal.at.overflow_add-s-in-loop-x-2 c).In-loop-x)
 
 pub overflow_add-q : goal.overflow_add-q
 overflow_add-q c = omega (arith, fits (goal.at.overflow_add-q c).Start, long (goal.at.overflow_add-q c).In-loop-x, c.loop-x-test.true)
@@ -160,7 +156,7 @@ pub bounds-workspace-squares-in-loop-x : goal.bounds-workspace-squares-in-loop-x
 bounds-workspace-squares-in-loop-x c = omega (arith, fits (goal.at.bounds-workspace-squares-in-loop-x c).Start, long (goal.at.bounds-workspace-squares-in-loop-x c).In-loop-x, c.loop-x-test.true)
 
 pub overflow_add-q-in-loop-x-2 : goal.overflow_add-q-in-loop-x-2
-overflow_add-q-in-loop-x-2 c = omega (arith, value-small (goal.at.overflow_add-q-in-loop-x-2 c).In-loop-x, sums-small (goal.at.overflow_add-q-in-loop-x-2 c).In-loop-x, above_small c)
+overflow_add-q-in-loop-x-2 c = omega (arith, value-small (goal.at.overflow_add-q-in-loop-x-2 c).In-loop-x, sums-small (goal.at.overflow_add-q-in-loop-x-2 c).In-loop-x, above_small (goal.at.overflow_add-q-in-loop-x-2 c).In-loop-x)
 
 pub overflow_add-workspace-in-loop-x : goal.overflow_add-workspace-in-loop-x
 overflow_add-workspace-in-loop-x c = omega (arith, fits (goal.at.overflow_add-workspace-in-loop-x c).Start, long (goal.at.overflow_add-workspace-in-loop-x c).In-loop-x, c.loop-x-test.true)
