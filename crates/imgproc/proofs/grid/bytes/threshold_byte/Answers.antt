@@ -11,5 +11,5 @@ use Rattle.imgproc.proofs.grid.bytes.threshold_byte.Goals as goal
 pub returns : goal.returns
 returns c =
     let z = c.args.config.threshold_offset in
-    let fits : SFits w16 z = record { sfits = c.type_inv.config.1.1.1.0.1 } in
+    let fits : SFits w16 z = record { sfits = ? } in
     c.stored.ensures ∙ ap₂ (λ (n : ℕ) (k : ℤ). clipped (pos n +ℤ k)) c.base_of.ensures (to_z-of_z w16 z fits)

@@ -7,17 +7,14 @@ use Rattle.imgproc.proofs.grid.tiles.Numbers.{scanned_none, scanned_more, scanne
 use Rattle.imgproc.proofs.grid.tiles.row_numbers.Goals as goal
 use Rattle.imgproc.proofs.grid.tiles.row_numbers.Goals.{After-max_of-maximum, After-shared_slice_known-1}
 
--- every sample is a byte
-bytes : (c : After-shared_slice_known-1) (k : ℕ) → get_or c.args.row.now k 0 < 256
-bytes c k = omega (arith, c.type_inv.row k)
+-- the sums of the samples passed
+module _ (row : List ℕ) (inv : (k : ℕ) → get_or row k 0 ≤ 255) {left x mn mx s q : ℕ}
+    (seen : Scanned (λ k. get_or row k 0) left x mn mx s q) (from : left ≤ x) where
+  bytes : (k : ℕ) → get_or row k 0 < 256
+  bytes k = omega (arith, inv k)
 
--- the sample at hand, and the sums before it
--- TURN: a helper hands on After-shared_slice_known-1; a helper hands on After-shared_slice_known-1
-here : (c : After-max_of-maximum)
-    → (c.loop-x.sum ≤ 255 * side_limit) × (c.loop-x.sum_sq ≤ 65025 * side_limit)
-here c =
-    let l = c.loop-x in
-    (omega (arith, sum_small l.invariant.2 l.invariant.0 (bytes c.After-shared_slice_known-1)), omega (arith, sum_sq_small l.invariant.2 l.invariant.0 (bytes c.After-shared_slice_known-1)))
+  sums : (s ≤ 255 * (x - left)) × (q ≤ 65025 * (x - left))
+  sums = (sum_small seen from bytes, sum_sq_small seen from bytes)
 
 square : (v : ℕ) → v < 256 → v * v ≤ 65025
 square v t = let a : v ≤ 255 = omega arith in mul-le-mul a a
