@@ -35,8 +35,8 @@ loop-i-preserved c =
     let l = c.loop-i in
     let m = c.args.m in
     elim c.if-trial-next.branch [
-      then-trial-next w ↦ turn_up m l.a l.root l.rest l.i c.if-trial-next.root c.if-trial-next.rest l.invariant c.loop-i-test.true w.if-trial-next.true w.root-is w.rest-is
-    | else-trial-next w ↦ turn_same m l.a l.root l.rest l.i c.if-trial-next.root c.if-trial-next.rest l.invariant c.loop-i-test.true w.if-trial-next.false w.root-is w.rest-is
+      | then-trial-next w ↦ turn_up m l.a l.root l.rest l.i c.if-trial-next.root c.if-trial-next.rest l.invariant c.loop-i-test.true w.if-trial-next.true w.root-is w.rest-is
+      | else-trial-next w ↦ turn_same m l.a l.root l.rest l.i c.if-trial-next.root c.if-trial-next.rest l.invariant c.loop-i-test.true w.if-trial-next.false w.root-is w.rest-is
     ]
 
 pub returns : goal.returns

@@ -40,13 +40,13 @@ overflow_mul-total c = omega (arith, few c.requires.0 c.tiles_along-tiles_x.ensu
 
 pub loop-t-init : goal.loop-t-init
 unfolding byte
-loop-t-init c =  (omega arith, written_none (byte (goal.at.loop-t-init c).Start) c.args.to c.args.bytes.now)
+loop-t-init c = (omega arith, written_none (byte (goal.at.loop-t-init c).Start) c.args.to c.args.bytes.now)
 
 pub nonzero_rem-t : goal.nonzero_rem-t
-nonzero_rem-t c =  some c.requires.0 c.tiles_along-tiles_x.ensures c.tiles_along-tiles_y.ensures
+nonzero_rem-t c = some c.requires.0 c.tiles_along-tiles_x.ensures c.tiles_along-tiles_y.ensures
 
 pub nonzero_div-t : goal.nonzero_div-t
-nonzero_div-t c =  some c.requires.0 c.tiles_along-tiles_x.ensures c.tiles_along-tiles_y.ensures
+nonzero_div-t c = some c.requires.0 c.tiles_along-tiles_x.ensures c.tiles_along-tiles_y.ensures
 
 pub join_around-numbers-requires : goal.join_around-numbers-requires
 join_around-numbers-requires c =
