@@ -13,10 +13,10 @@ mark_tiles-requires c =
 
 pub judge_picture-judged-requires : goal.judge_picture-judged-requires
 judge_picture-judged-requires c =
-    (
-      judge_stage c.requires c.start.ensures c.flatten_and_open-tally.ensures c.mark_tiles.ensures,
-      (c.requires.pair.to, (sym c.requires.pair.wide, sym c.requires.pair.high)),
-    )
+    record {
+      ready = judge_stage c.requires c.start.ensures c.flatten_and_open-tally.ensures c.mark_tiles.ensures;
+      destination = (c.requires.pair.to, (sym c.requires.pair.wide, sym c.requires.pair.high));
+    }
 
 pub returns : goal.returns
 returns c =

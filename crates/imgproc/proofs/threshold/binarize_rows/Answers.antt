@@ -33,7 +33,7 @@ fits t =
     t.requires.ready.layout.wide (omega (arith, t.requires.pair.to.stride, t.requires.pair.wide)) (within t)
 
 pub loop-y-init : goal.loop-y-init
-loop-y-init c =  rows_start (new (goal.at.loop-y-init c).Start) _ _ _ _
+loop-y-init c = rows_start (new (goal.at.loop-y-init c).Start) _ _ _ _
 
 pub overflow_mul-from : goal.overflow_mul-from
 overflow_mul-from c = omega (arith, within (goal.at.overflow_mul-from c).In-loop-y)
@@ -58,7 +58,7 @@ overflow_add-y c =
     omega (arith, c.loop-y-test.true, c.requires.ready.layout.small_height)
 
 pub loop-y-smaller : goal.loop-y-smaller
-loop-y-smaller c =  omega (arith, c.loop-y-test.true)
+loop-y-smaller c = omega (arith, c.loop-y-test.true)
 
 pub loop-y-preserved : goal.loop-y-preserved
 loop-y-preserved c =

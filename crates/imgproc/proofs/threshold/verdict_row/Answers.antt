@@ -29,19 +29,19 @@ pub overflow_add-next : goal.overflow_add-next
 overflow_add-next c = omega (arith, c.loop-next-test.true, c.requires.ready.layout.small_width)
 
 pub threshold_at_pixel-threshold-requires : goal.threshold_at_pixel-threshold-requires
-threshold_at_pixel-threshold-requires c =  (c.requires.ready, (c.loop-next-test.true, c.requires.inside))
+threshold_at_pixel-threshold-requires c = (c.requires.ready, (c.loop-next-test.true, c.requires.inside))
 
 pub bounds-row-x : goal.bounds-row-x
-bounds-row-x c =  omega (arith, long (goal.at.bounds-row-x c).In-loop-next, c.loop-next-test.true)
+bounds-row-x c = omega (arith, long (goal.at.bounds-row-x c).In-loop-next, c.loop-next-test.true)
 
 pub overflow_cast-row : goal.overflow_cast-row
 overflow_cast-row c = omega (arith, c.type_inv.row c.loop-next.next)
 
 pub bounds-out-x : goal.bounds-out-x
-bounds-out-x c =  omega (arith, c.loop-next.invariant.same, c.requires.wide, c.loop-next-test.true)
+bounds-out-x c = omega (arith, c.loop-next.invariant.same, c.requires.wide, c.loop-next-test.true)
 
 pub loop-next-smaller-then-row-x : goal.loop-next-smaller-then-row-x
-loop-next-smaller-then-row-x c =  omega (arith, c.loop-next-test.true)
+loop-next-smaller-then-row-x c = omega (arith, c.loop-next-test.true)
 
 pub loop-next-preserved-then-row-x : goal.loop-next-preserved-then-row-x
 loop-next-preserved-then-row-x c =
@@ -54,10 +54,10 @@ loop-next-preserved-then-row-x c =
     (verdict_dark a.config g.width g.height (picture a.src.now g) l.next a.y (value-is (goal.at.loop-next-preserved-then-row-x c).In-loop-next) c.threshold_at_pixel-threshold.ensures c.if-row-x.true)
 
 pub bounds-out-x-else-row-x : goal.bounds-out-x-else-row-x
-bounds-out-x-else-row-x c =  omega (arith, c.loop-next.invariant.same, c.requires.wide, c.loop-next-test.true)
+bounds-out-x-else-row-x c = omega (arith, c.loop-next.invariant.same, c.requires.wide, c.loop-next-test.true)
 
 pub loop-next-smaller : goal.loop-next-smaller
-loop-next-smaller c =  omega (arith, c.loop-next-test.true)
+loop-next-smaller c = omega (arith, c.loop-next-test.true)
 
 pub loop-next-preserved : goal.loop-next-preserved
 loop-next-preserved c =

@@ -23,7 +23,7 @@ room c =
     room_for_one c.loop-next-test.true c.loop-next.invariant.1 c.requires.row.1.1
 
 pub overflow_add-next : goal.overflow_add-next
-overflow_add-next c =  omega (arith, c.loop-next-test.true, c.requires.ready.tables.layout.small_width)
+overflow_add-next c = omega (arith, c.loop-next-test.true, c.requires.ready.tables.layout.small_width)
 
 pub judge-judgement-requires : goal.judge-judgement-requires
 judge-judgement-requires c = record { ready = c.requires.ready; inside = (c.loop-next-test.true, c.requires.row.0) }
@@ -35,14 +35,13 @@ pub bounds-out-x : goal.bounds-out-x
 bounds-out-x c = inside (goal.at.bounds-out-x c).In-loop-next
 
 pub loop-next-smaller-in-Dark : goal.loop-next-smaller-in-Dark
-loop-next-smaller-in-Dark c =  omega (arith, c.loop-next-test.true)
+loop-next-smaller-in-Dark c = omega (arith, c.loop-next-test.true)
 
 pub loop-next-preserved-in-Dark : goal.loop-next-preserved-in-Dark
-loop-next-preserved-in-Dark c =
-    (
-      (omega (arith, c.loop-next-test.true), length-set c.loop-next.out c.loop-next.next _ ∙ c.loop-next.invariant.0.1),
-      next_judged Dark c.loop-next.invariant.1 (inside (goal.at.loop-next-preserved-in-Dark c).In-loop-next) (sym c.in-Dark.is ∙ c.judge-judgement.ensures) (omega arith) (omega arith) (omega arith),
-    )
+loop-next-preserved-in-Dark c = (
+  (omega (arith, c.loop-next-test.true), length-set c.loop-next.out c.loop-next.next _ ∙ c.loop-next.invariant.0.1),
+  next_judged Dark c.loop-next.invariant.1 (inside (goal.at.loop-next-preserved-in-Dark c).In-loop-next) (sym c.in-Dark.is ∙ c.judge-judgement.ensures) (omega arith) (omega arith) (omega arith),
+)
 
 pub overflow_add-counts-in-Light : goal.overflow_add-counts-in-Light
 overflow_add-counts-in-Light c = record { fits = (room (goal.at.overflow_add-counts-in-Light c).In-loop-next).light }
@@ -51,14 +50,13 @@ pub bounds-out-x-in-Light : goal.bounds-out-x-in-Light
 bounds-out-x-in-Light c = inside (goal.at.bounds-out-x-in-Light c).In-loop-next
 
 pub loop-next-smaller-in-Light : goal.loop-next-smaller-in-Light
-loop-next-smaller-in-Light c =  omega (arith, c.loop-next-test.true)
+loop-next-smaller-in-Light c = omega (arith, c.loop-next-test.true)
 
 pub loop-next-preserved-in-Light : goal.loop-next-preserved-in-Light
-loop-next-preserved-in-Light c =
-    (
-      (omega (arith, c.loop-next-test.true), length-set c.loop-next.out c.loop-next.next _ ∙ c.loop-next.invariant.0.1),
-      next_judged Light c.loop-next.invariant.1 (inside (goal.at.loop-next-preserved-in-Light c).In-loop-next) (sym c.in-Light.is ∙ c.judge-judgement.ensures) (omega arith) (omega arith) (omega arith),
-    )
+loop-next-preserved-in-Light c = (
+  (omega (arith, c.loop-next-test.true), length-set c.loop-next.out c.loop-next.next _ ∙ c.loop-next.invariant.0.1),
+  next_judged Light c.loop-next.invariant.1 (inside (goal.at.loop-next-preserved-in-Light c).In-loop-next) (sym c.in-Light.is ∙ c.judge-judgement.ensures) (omega arith) (omega arith) (omega arith),
+)
 
 pub overflow_add-counts-in-Skipped : goal.overflow_add-counts-in-Skipped
 overflow_add-counts-in-Skipped c = record { fits = (room (goal.at.overflow_add-counts-in-Skipped c).In-loop-next).skipped }
@@ -67,14 +65,13 @@ pub bounds-out-x-in-Skipped : goal.bounds-out-x-in-Skipped
 bounds-out-x-in-Skipped c = inside (goal.at.bounds-out-x-in-Skipped c).In-loop-next
 
 pub loop-next-smaller : goal.loop-next-smaller
-loop-next-smaller c =  omega (arith, c.loop-next-test.true)
+loop-next-smaller c = omega (arith, c.loop-next-test.true)
 
 pub loop-next-preserved : goal.loop-next-preserved
-loop-next-preserved c =
-    (
-      (omega (arith, c.loop-next-test.true), length-set c.loop-next.out c.loop-next.next _ ∙ c.loop-next.invariant.0.1),
-      next_judged Skipped c.loop-next.invariant.1 (inside (goal.at.loop-next-preserved c).In-loop-next) (sym c.in-Skipped.is ∙ c.judge-judgement.ensures) (omega arith) (omega arith) (omega arith),
-    )
+loop-next-preserved c = (
+  (omega (arith, c.loop-next-test.true), length-set c.loop-next.out c.loop-next.next _ ∙ c.loop-next.invariant.0.1),
+  next_judged Skipped c.loop-next.invariant.1 (inside (goal.at.loop-next-preserved c).In-loop-next) (sym c.in-Skipped.is ∙ c.judge-judgement.ensures) (omega arith) (omega arith) (omega arith),
+)
 
 pub shape_of-out : goal.shape_of-out
 shape_of-out c = c.loop-next.invariant.0.1

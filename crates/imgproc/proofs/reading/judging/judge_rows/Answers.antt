@@ -65,7 +65,7 @@ overflow_add-y c =
     omega (arith, c.loop-y-test.true, c.requires.ready.tables.layout.small_height)
 
 pub loop-y-smaller : goal.loop-y-smaller
-loop-y-smaller c =  omega (arith, c.loop-y-test.true)
+loop-y-smaller c = omega (arith, c.loop-y-test.true)
 
 pub loop-y-preserved : goal.loop-y-preserved
 loop-y-preserved c =

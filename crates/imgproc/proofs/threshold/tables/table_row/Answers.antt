@@ -103,7 +103,7 @@ pub bounds-workspace-squares : goal.bounds-workspace-squares
 bounds-workspace-squares c = simp length-set (omega (arith, fits (goal.at.bounds-workspace-squares c).Start))
 
 pub loop-x-init : goal.loop-x-init
-loop-x-init c =  row_start (pixels (goal.at.loop-x-init c).Start) _ _ _ _ c.requires.1.0 c.args.workspace.now c.requires.1.1
+loop-x-init c = row_start (pixels (goal.at.loop-x-init c).Start) _ _ _ _ c.requires.1.0 c.args.workspace.now c.requires.1.1
 
 pub bounds-row-x : goal.bounds-row-x
 bounds-row-x c =
