@@ -48,8 +48,8 @@ loop-y-preserved-then-y-height c =
     c.loop-y.invariant
     c.loop-y-test.true
     (elim c.if-y-kernel.branch [
-      then-y-kernel w ↦ inl w.if-y-kernel.true
-    | else-y-kernel w ↦ inr (eqb-true _ _ (sym w.value-is ∙ c.if-y-height.true))
+      | then-y-kernel w ↦ inl w.if-y-kernel.true
+      | else-y-kernel w ↦ inr (eqb-true _ _ (sym w.value-is ∙ c.if-y-height.true))
     ])
     c.copy_lanes.ensures
 
@@ -60,8 +60,8 @@ neither : (c : Else-y-height)
     ((y - 1) % a.kernel ≡ a.kernel - 1 → ⊥) × (y - 1 ≡ a.planes.height - 1 → ⊥)
 neither c =
     elim c.if-y-kernel.branch [
-      then-y-kernel w ↦ absurd (eqb-false _ _ (sym w.value-is ∙ c.if-y-height.false) w.if-y-kernel.true)
-    | else-y-kernel w ↦ (w.if-y-kernel.false, eqb-false _ _ (sym w.value-is ∙ c.if-y-height.false))
+      | then-y-kernel w ↦ absurd (eqb-false _ _ (sym w.value-is ∙ c.if-y-height.false) w.if-y-kernel.true)
+      | else-y-kernel w ↦ (w.if-y-kernel.false, eqb-false _ _ (sym w.value-is ∙ c.if-y-height.false))
     ]
 
 -- and then there is a line below
