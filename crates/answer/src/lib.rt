@@ -2,9 +2,9 @@
 // a condition.
 #![tactic(auto)]
 
-ghost use Rattle.std.specs.Prelude.{◌≡◌};
+ghost use Rattle.std.specs.Prelude.{◌≡◌, ◌≤◌, length, IfOk, IfSome};
 ghost use Rattle.answer.specs.Answer.{settings, answer_of, AnswersPicture, AnswersInput};
-ghost use Rattle.answer.specs.Program.{program_line, AnswersAndMarks, ReadPart, PrintsStart};
+ghost use Rattle.answer.specs.Program.{program_line, AnswersAndMarks, ReadPart, Starts, PrintsStart};
 ghost use Rattle.imgproc.specs.Reading.{read_answer};
 ghost use Rattle.pgm.specs.Line.{Writes};
 
@@ -85,13 +85,13 @@ fn answer_picture(
 ) -> usize
     ensures { AnswersPicture width height pixels.now
         (record {
-          dst = dst.entry.now;
+          dst = dst.old;
           bytes = bytes.old;
           u64s = u64s.old;
           out = out.old;
         })
         result
-        (record { dst = dst.exit.now; bytes = bytes.new; u64s = u64s.new; out = out.new }) }
+        (record { dst = dst.new; bytes = bytes.new; u64s = u64s.new; out = out.new }) }
 {
     let geometry = Geometry {
         width: width,
@@ -114,13 +114,13 @@ pub fn answer(
 ) -> usize
     ensures { AnswersInput input.now
         (record {
-          dst = dst.entry.now;
+          dst = dst.old;
           bytes = bytes.old;
           u64s = u64s.old;
           out = out.old;
         })
         result
-        (record { dst = dst.exit.now; bytes = bytes.new; u64s = u64s.new; out = out.new }) }
+        (record { dst = dst.new; bytes = bytes.new; u64s = u64s.new; out = out.new }) }
 {
     let Parsed::Picture(width, height, at) = pgm::parse(input) else {
         return pgm::refused_line(MALFORMED, out);
@@ -140,7 +140,10 @@ pub fn answer_and_mark(input: &[u8], dst: &mut [u8; PIXELS], out: &mut [u8]) -> 
 }
 
 // Reads the first bytes of an input, as many as the buffer holds or the whole input, and gives how many they are.
-pub fn read_start<R: io::Read>(input: &mut R, buffer: &mut [u8; INPUT]) -> io::Result<usize> {
+pub fn read_start<R: io::Read>(input: &mut R, buffer: &mut [u8; INPUT]) -> io::Result<usize>
+    ensures within { IfOk result (λ n. n ≤ length buffer.new) }
+    ensures bytes { IfOk result (λ n. IfSome (R.remaining input.old) (Starts buffer.new n)) }
+{
     let mut n = 0;
     while n < INPUT {
         let more = input.read(&mut buffer[n..])?;
