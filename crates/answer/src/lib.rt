@@ -2,9 +2,9 @@
 // a condition.
 #![tactic(auto)]
 
-ghost use Rattle.std.specs.Prelude.{◌≡◌};
+ghost use Rattle.std.specs.Prelude.{◌≡◌, ◌≤◌, length, IfOk, IfSome};
 ghost use Rattle.answer.specs.Answer.{settings, answer_of, AnswersPicture, AnswersInput};
-ghost use Rattle.answer.specs.Program.{program_line, AnswersAndMarks, ReadPart, PrintsStart};
+ghost use Rattle.answer.specs.Program.{program_line, AnswersAndMarks, ReadPart, Starts, PrintsStart};
 ghost use Rattle.imgproc.specs.Reading.{read_answer};
 ghost use Rattle.pgm.specs.Line.{Writes};
 
@@ -140,7 +140,10 @@ pub fn answer_and_mark(input: &[u8], dst: &mut [u8; PIXELS], out: &mut [u8]) -> 
 }
 
 // Reads the first bytes of an input, as many as the buffer holds or the whole input, and gives how many they are.
-pub fn read_start<R: io::Read>(input: &mut R, buffer: &mut [u8; INPUT]) -> io::Result<usize> {
+pub fn read_start<R: io::Read>(input: &mut R, buffer: &mut [u8; INPUT]) -> io::Result<usize>
+    ensures within { IfOk result (λ n. n ≤ length buffer.new) }
+    ensures bytes { IfOk result (λ n. IfSome (R.remaining input.old) (Starts buffer.new n)) }
+{
     let mut n = 0;
     while n < INPUT {
         let more = input.read(&mut buffer[n..])?;
