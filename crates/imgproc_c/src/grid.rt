@@ -55,10 +55,10 @@ pub extern "C" fn imgproc_tile_grid_build(
           thresholds = thresholds.old;
           skips = skips.old;
         })
-        (record { tiles-x = tiles_x.old; tiles-y = tiles_y.old })
+        (record { tiles_x = tiles_x.old; tiles_y = tiles_y.old })
         result
         (record { workspace = workspace.new; thresholds = thresholds.new; skips = skips.new })
-        (record { tiles-x = tiles_x.new; tiles-y = tiles_y.new }) }
+        (record { tiles_x = tiles_x.new; tiles_y = tiles_y.new }) }
 {
     let geometry = Geometry {
         width,
