@@ -1,6 +1,6 @@
 -- What the program `reading` prints for each input, what stands in the destination then, and what the reading of the
 -- largest picture is lent. Definitions only.
-use Rattle.std.specs.Prelude.{ℕ, ◌+◌, ◌*◌, ◌≤◌, ◌≡◌, Bool, cond, ◌||◌, List, ◌++◌, eqb, length, take, drop}
+use Rattle.std.specs.Prelude.{ℕ, ◌*◌, ◌≤◌, ◌≡◌, Bool, cond, ◌||◌, List, ◌++◌, eqb, length, take, drop}
 use Rattle.image.specs.Plane.{painted_on}
 use Rattle.imgproc.specs.GridCalls.{tile_count}
 use Rattle.imgproc.specs.Reading.{reading_of, marked, reading_bytes, reading_u64s}
@@ -78,6 +78,10 @@ pub record AnswersAndMarks (input dst out : List ℕ) (answer : ℕ) (dst' out' 
 pub record ReadPart (buffer : List ℕ) (n : ℕ) (got : List ℕ) : Type 0 where
   pub first : got ≡ take n buffer
   pub enough : input_limit ≤ length buffer
+
+-- the first n bytes of a buffer are an input, or as many of its first bytes as the buffer holds
+abbrev pub Starts : List ℕ → ℕ → List ℕ → Type 0
+Starts buffer n input = take n buffer ≡ take (length buffer) input
 
 -- the contract of a program's answer to what it has read, the first n bytes of a buffer. These are the input, or as
 -- many of its first bytes as the buffer holds; for every such input the text of the whole input is written. `within`

@@ -2,9 +2,9 @@
 // a condition.
 #![tactic(auto)]
 
-ghost use Rattle.std.specs.Prelude.{◌≡◌};
+ghost use Rattle.std.specs.Prelude.{◌≡◌, ◌≤◌, length, IfOk, IfSome};
 ghost use Rattle.answer.specs.Answer.{settings, answer_of, AnswersPicture, AnswersInput};
-ghost use Rattle.answer.specs.Program.{program_line, AnswersAndMarks, ReadPart, PrintsStart};
+ghost use Rattle.answer.specs.Program.{program_line, AnswersAndMarks, ReadPart, Starts, PrintsStart};
 ghost use Rattle.imgproc.specs.Reading.{read_answer};
 ghost use Rattle.pgm.specs.Line.{Writes};
 
@@ -14,6 +14,7 @@ use imgproc::morphology::tally;
 use imgproc::reading::{Read, ReadingConfig};
 use imgproc::threshold::SauvolaConfig;
 use pgm::Parsed;
+use std::io;
 
 // The number of an input that is no picture.
 pub const MALFORMED: u32 = 11;
@@ -84,13 +85,13 @@ fn answer_picture(
 ) -> usize
     ensures { AnswersPicture width height pixels.now
         (record {
-          dst = dst.entry.now;
+          dst = dst.old;
           bytes = bytes.old;
           u64s = u64s.old;
           out = out.old;
         })
         result
-        (record { dst = dst.exit.now; bytes = bytes.new; u64s = u64s.new; out = out.new }) }
+        (record { dst = dst.new; bytes = bytes.new; u64s = u64s.new; out = out.new }) }
 {
     let geometry = Geometry {
         width: width,
@@ -113,13 +114,13 @@ pub fn answer(
 ) -> usize
     ensures { AnswersInput input.now
         (record {
-          dst = dst.entry.now;
+          dst = dst.old;
           bytes = bytes.old;
           u64s = u64s.old;
           out = out.old;
         })
         result
-        (record { dst = dst.exit.now; bytes = bytes.new; u64s = u64s.new; out = out.new }) }
+        (record { dst = dst.new; bytes = bytes.new; u64s = u64s.new; out = out.new }) }
 {
     let Parsed::Picture(width, height, at) = pgm::parse(input) else {
         return pgm::refused_line(MALFORMED, out);
@@ -136,6 +137,22 @@ pub fn answer_and_mark(input: &[u8], dst: &mut [u8; PIXELS], out: &mut [u8]) -> 
     let mut bytes = [0u8; BYTES];
     let mut u64s = [0u64; U64S];
     answer(input, dst, &mut bytes, &mut u64s, out)
+}
+
+// Reads the first bytes of an input, as many as the buffer holds or the whole input, and gives how many they are.
+pub fn read_start<R: io::Read>(input: &mut R, buffer: &mut [u8; INPUT]) -> io::Result<usize>
+    ensures within { IfOk result (λ n. n ≤ length buffer.new) }
+    ensures bytes { IfOk result (λ n. IfSome (R.remaining input.old) (Starts buffer.new n)) }
+{
+    let mut n = 0;
+    while n < INPUT {
+        let more = input.read(&mut buffer[n..])?;
+        if more == 0 {
+            break;
+        }
+        n += more;
+    }
+    Ok(n)
 }
 
 // Gives the part of a buffer that was read: its first n bytes, or all of it where n is more.

@@ -8,8 +8,8 @@ ghost use Rattle.answer.specs.Program.{Prints, PrintsStart};
 ghost use Rattle.column.specs.Drawing.{row_byte, program_drawing, drawing_room};
 ghost use Rattle.column.specs.Steps.{ink_of, Room, DrawsRows};
 
-use libc::{STDIN_FILENO, STDOUT_FILENO};
 use pgm::Parsed;
+use std::io;
 
 // The length of a buffer that holds any line, and 60 rows of 60 marks and a line feed each: 3,788.
 const DRAWING: usize = answer::LINE + (pgm::SIDE_LIMIT + 1) * pgm::SIDE_LIMIT;
@@ -77,10 +77,10 @@ fn draw_start(buffer: &[u8; answer::INPUT], n: usize, out: &mut [u8; DRAWING]) -
 }
 
 // Reads the first bytes of the input, draws them and writes the drawing.
-fn main() {
+fn main(rt: HostRuntime) -> io::Result<()> {
     let mut input = [0u8; answer::INPUT];
     let mut out = [0u8; DRAWING];
-    let n = io::read_full(STDIN_FILENO, &mut input);
+    let n = answer::read_start(&mut rt.stdin(), &mut input)?;
     let length = draw_start(&input, n, &mut out);
-    io::write_all(STDOUT_FILENO, &out[..length]);
+    rt.write_all(&out[..length])
 }

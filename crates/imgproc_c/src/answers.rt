@@ -25,9 +25,9 @@ pub(crate) fn counted(answer: Compared, comparisons: &mut u64) -> u32
 // Stores the tile counts in the lent numbers.
 pub(crate) fn built(answer: Built, tiles_x: &mut usize, tiles_y: &mut usize) -> u32
     ensures { Tells (built_answer answer)
-        (record { tiles-x = tiles_x.old; tiles-y = tiles_y.old })
+        (record { tiles_x = tiles_x.old; tiles_y = tiles_y.old })
         result
-        (record { tiles-x = tiles_x.new; tiles-y = tiles_y.new }) }
+        (record { tiles_x = tiles_x.new; tiles_y = tiles_y.new }) }
 {
     match answer {
         Built::Tiles(x, y) => {
@@ -79,14 +79,14 @@ pub(crate) fn read(
 ) -> u32
     ensures { Tells (read_answer answer)
         (record {
-          dark = dark.entry.now;
+          dark = dark.old;
           light = light.old;
           skipped = skipped.old;
           comparisons = comparisons.old;
         })
         result
         (record {
-          dark = dark.exit.now;
+          dark = dark.new;
           light = light.new;
           skipped = skipped.new;
           comparisons = comparisons.new;

@@ -10,54 +10,32 @@ mod replay;
 mod reply;
 mod settings;
 
-use libc::STDOUT_FILENO;
 use replay::Score;
+use std::rt::Files;
+use std::{env, fs, io};
 
 // Every list is shorter than this.
 const LONGEST: usize = 131072;
 
-fn write_count(text: &[u8], count: usize) {
-    io::write_all(STDOUT_FILENO, text);
-    io::print_decimal(STDOUT_FILENO, count as u64);
-}
-
-fn report(name: &[u8], score: Score) {
-    io::write_all(STDOUT_FILENO, name);
-    write_count(b" cases ", score.cases);
-    write_count(b" wrong ", score.wrong);
+fn report(rt: &impl Print, name: &str, score: Score) -> io::Result<()> {
+    print!(rt; "{name} cases {} wrong {}", score.cases, score.wrong)?;
     if score.wrong > 0 {
-        write_count(b" first at line ", score.first);
+        print!(rt; " first at line {}", score.first)?;
     }
-    io::write_all(STDOUT_FILENO, b"\n");
+    rt.println("")
 }
 
-fn run(name: &[u8]) {
-    let file = os::open_read(name);
-    if file < 0 {
-        os::fail(name);
-        return;
+fn run(rt: &(impl Files + Print + AllocGlobal), name: &str) -> io::Result<()> {
+    let text = fs::read(rt, name)?;
+    if text.len() >= LONGEST {
+        return report(rt, name, replay::unread());
     }
-    let mut text = [0u8; LONGEST];
-    let n = io::read_full(file, &mut text);
-    libc::close(file);
-    if n == LONGEST {
-        report(name, replay::unread());
-        return;
-    }
-    report(name, replay::replay(&text[..n]));
+    report(rt, name, replay::replay(&text))
 }
 
-fn named(i: usize) {
-    let mut name = [0u8; 64];
-    let n = os::arg(i, &mut name);
-    run(&name[..n]);
-}
-
-fn main() {
-    let count = os::arg_count();
-    let mut i = 1;
-    while i < count {
-        named(i);
-        i += 1;
+fn main(rt: HostRuntime) -> io::Result<()> {
+    for name in env::args(&rt)?.skip(1) {
+        run(&rt, name.as_str())?;
     }
+    Ok(())
 }

@@ -2,13 +2,13 @@
 // dark, light, skipped and comparisons, or the number of a refusal.
 #![tactic(auto)]
 
-use libc::{STDIN_FILENO, STDOUT_FILENO};
+use std::io;
 
 // Reads the first bytes of the input, answers them and writes the line.
-fn main() {
+fn main(rt: HostRuntime) -> io::Result<()> {
     let mut input = [0u8; answer::INPUT];
     let mut line = [0u8; answer::LINE];
-    let n = io::read_full(STDIN_FILENO, &mut input);
+    let n = answer::read_start(&mut rt.stdin(), &mut input)?;
     let length = answer::answer_start(&input, n, &mut line);
-    io::write_all(STDOUT_FILENO, &line[..length]);
+    rt.write_all(&line[..length])
 }
