@@ -1,20 +1,21 @@
 """Checks what document 01, part 2, says of the tally and no contract can say. A contract fixes how many comparisons a call reports.
 It does not say that each of them was made, that each was counted when it was made, and that no other was made. The types keep all
 code but src/morphology/tally.rt from making a tally or touching its number. The rules of rules.py cover the rest. They are about the program
-that the proofs are about, as `rt mir` prints it. No rule holds a copy of the code.
+that the proofs are about, as `rt check --generated` writes it. No rule holds a copy of the code.
 
   python3 tools/tally             checks image, imgproc, and the two crates that report a number: answer and imgproc_c
-  python3 tools/tally try         tries each edit of crates/*/fence: what the edit names must refuse it (edits.py)
+  python3 tools/tally try         does so, and tries each edit of crates/*/fence: what the edit names must refuse it (edits.py)
   python3 tools/tally try A B     tries the edits A and B alone
 
 The tool prints a breach as file, line and function, what the function does, and the rule. It exits with 1 if a rule is broken or an
-edit is not refused as its file says. It exits with 2 if it cannot tell: the print has another form (mir.py), or does not contain the
+edit is not refused as its file says. It exits with 2 if it cannot tell: the code has another form (mir.py), or does not contain the
 functions that the rules name (program.py)."""
 import pathlib
 import sys
 
 sys.dont_write_bytecode = True
 sys.setrecursionlimit(100000)
+sys.path.append(str(pathlib.Path(__file__).resolve().parent.parent))
 import edits
 import prints
 from mir import Unknown
@@ -40,7 +41,7 @@ def main(words):
     except Unknown as unknown:
         print(f'tally: cannot tell: {unknown}')
     except (IndexError, KeyError, TypeError, ValueError) as error:
-        print(f'tally: cannot tell: the print has another form than mir.py knows: {error!r}')
+        print(f'tally: cannot tell: the code has another form than mir.py knows: {error!r}')
     return 2
 
 

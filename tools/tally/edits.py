@@ -1,22 +1,26 @@
 """Tries the edits of crates/*/fence: frauds on the tally, which must be refused, and honest changes, which must pass. They have the
 form of the must-fail edits, and a line that says what refuses them:
 
-  refused by: compiler CODE     `rt mir` rejects the crate with this error
+  refused by: compiler CODE     the compiler rejects the crate with this error
   refused by: check RULE        the crate compiles, and this rule is broken
   refused by: proof             no rule is broken, and the crate is not proved any more
   passes                        the crate compiles and no rule is broken; its proofs are not tried
 
-The tool applies each edit by itself in a copy, $FRAUDS_COPY or target/frauds, where tools/frauds leaves what it has proved. It takes
-along what was proved in the repository. An edit fails if it does not apply, or if something else refuses it, or nothing."""
+The tool applies each edit by itself in a copy of the repository, several at a time, below $FRAUDS_COPY or in a temporary folder. It
+reads the code of the functions that the edit changes, and of all others as it stands. An edit fails if it does not apply, or if
+something else refuses it, or nothing."""
+import concurrent.futures
 import os
 import pathlib
+import queue
 import re
-import shutil
-import subprocess
+import tempfile
 
+import copies
 import prints
+from mir import Unknown
 from prints import Rejected
-from rules import breaches
+from rules import RULES, breaches
 
 
 class Edit:
@@ -38,83 +42,126 @@ class Edit:
             elif line.startswith('new:'):
                 self.changes.append((file, old, line[4:].removeprefix(' ')))
 
-    def apply(self, copy):
-        """Replaces the old texts. Tells whether each stood in its file exactly once."""
-        for file, old, new in self.changes:
-            path = copy / 'crates' / self.crate / file
-            text = path.read_text()
-            if text.count(old) != 1:
-                return False
-            path.write_text(text.replace(old, new))
-        return bool(self.changes) and self.wanted is not None
+
+def pieces(text):
+    """Returns the text of each function of a file by its name, and what stands outside of the functions. Comments and layout do not
+    count."""
+    text = re.sub(r'//[^\n]*', '', text)
+    outside, found, at = '', {}, 0
+    for head in re.finditer(r'(?:\bpub(?:\(\w+\))?\s+)?(?:\bextern "C" )?\bfn (\w+)', text):
+        if head.start() < at:
+            continue
+        level, end, is_body = 0, head.end(), False
+        # the body is the first brace after the clauses, which have braces of their own
+        while end < len(text):
+            mark = text[end]
+            if mark == '{' and level == 0:
+                is_body = not re.search(r'\b(requires|ensures|ghost)\*?(\s+\w+:?)?\s*\Z', text[head.start():end])
+            level += {'{': 1, '}': -1}.get(mark, 0)
+            end += 1
+            if (mark == '}' and level == 0 and is_body) or (mark == ';' and level == 0):
+                break
+        outside += text[at:head.start()]
+        found[head[1]] = found.get(head[1], '') + ' '.join(text[head.start():end].split())
+        at = end
+    return found, ' '.join((outside + text[at:]).split())
 
 
-def restore(root, copy, crate):
-    shutil.rmtree(copy / 'crates' / crate, ignore_errors=True)
-    shutil.copytree(root / 'crates' / crate, copy / 'crates' / crate)
+def touched(root, crate, texts):
+    """Returns the functions whose text the edit changes, by their paths in the crate, or none if it changes what stands outside of
+    them: then any function may be another."""
+    names = []
+    for file, text in texts.items():
+        old, outside = pieces(copies.read(os.path.join(root, 'crates', crate, file)))
+        new, outside_now = pieces(text)
+        if outside != outside_now:
+            return []
+        module = re.sub(r'^src/|\.rt$', '', file).replace('/', '::')
+        names += [name if module in ('lib', 'main') else f'{module}::{name}' for name in new if new[name] != old.get(name)]
+    return names
 
 
-def make(root, copy):
-    """Copies the crates as they stand, and what is proved of them."""
-    (copy / 'target').mkdir(parents=True, exist_ok=True)
-    shutil.copy(root / 'crates.txt', copy)
-    for crate in (root / 'crates').iterdir():
-        restore(root, copy, crate.name)
-    for part in ('rlib', 'stamp', 'inc'):
-        known, there = root / 'target' / part, copy / 'target' / part
-        if known.is_dir() and not (part == 'inc' and there.is_dir()):
-            shutil.rmtree(there, ignore_errors=True)
-            shutil.copytree(known, there)
-
-
-def proof(copy, crate):
+def proof(root, crate):
     """Tells what refuses a crate that no rule refuses: a proof, with the first need that is not met, or nobody."""
-    run = subprocess.run(['rt', 'dev', crate], cwd=copy, capture_output=True, text=True, stdin=subprocess.DEVNULL)
-    log = run.stdout + run.stderr
-    if run.returncode != 1 or not re.search('^logic=not-proved', log, re.M):
+    status, said = copies.check(root, crate)
+    if status != 1 or not re.search('^logic=not-proved', said, re.M):
         return 'nobody', ''
-    needs = [line for line in log.split('\n') if 'was not admitted' not in line]
+    needs = [line for line in said.split('\n') if 'declaration' not in line]
     found = [m.group() for m in (re.search(r'proofs/\S*: error: `[^`]*`|src/\S*: it is not proved .*', n) for n in needs) if m]
     return 'proof', found[0].replace(' error:', '') if found else 'not proved'
 
 
-def refused(edit, copy, base):
+def refused(edit, texts, root, base, printed):
     """Tells what refuses an applied edit, and with which message."""
     try:
-        found = breaches({**base, edit.crate: prints.of(edit.crate, copy)})
+        code = prints.of(edit.crate, root, touched(base, edit.crate, texts))
+        found = breaches({**printed, edit.crate: {**printed[edit.crate], **code}})
     except Rejected as rejected:
         return 'compiler', str(rejected)
+    except Unknown as unknown:
+        return 'unknown', str(unknown)
     if found:
         named = [b for b in found if b[0] == edit.wanted[1]]
-        return 'check', prints.told((named or found)[0], copy)
-    return proof(copy, edit.crate) if edit.wanted[0] == 'proof' else ('nobody', 'passes')
+        return 'check', prints.told((named or found)[0], pathlib.Path(root))
+    return proof(root, edit.crate) if edit.wanted[0] == 'proof' else ('nobody', 'passes')
 
 
-def tried(edit, root, copy, base):
-    """Tells whether the edit is refused by what its file names."""
-    if not edit.apply(copy):
-        print(f'{edit.name}: DOES NOT APPLY', flush=True)
-        good = False
-    else:
-        who, said = refused(edit, copy, base)
-        good = who == edit.wanted[0] and edit.wanted[1] in said
-        print(f'{edit.name}: {who}: {said}' if good else f'{edit.name}: WANTED {" ".join(edit.wanted)}: {who}: {said}', flush=True)
-    restore(root, copy, edit.crate)
-    return good
+def tried(edit, root, base, printed):
+    """Tells whether the edit is refused by what its file names, and what to print."""
+    texts, why = copies.edited(os.path.join(base, 'crates'), edit.crate, edit.changes)
+    if texts is None or edit.wanted is None:
+        return False, f'{edit.name}: DOES NOT APPLY: {why or "it says nothing of what refuses it"}'
+    copies.make_root(root, base, edit.crate)
+    for file, text in texts.items():
+        copies.write(os.path.join(root, 'crates', edit.crate, file), text)
+    who, said = refused(edit, texts, root, base, printed)
+    good = who == edit.wanted[0] and edit.wanted[1] in said
+    return good, f'{edit.name}: {"" if good else "WANTED " + " ".join(edit.wanted) + ": "}{who}: {said}'
+
+
+def try_in(work, wanted):
+    base = copies.make_base(work)
+    printed = prints.of_all(base)
+    found = breaches(printed)
+    for breach in found:
+        print(prints.told(breach, pathlib.Path(base)))
+    print(f'tally: {len(RULES)} rules, {len(found)} breaches', flush=True)
+    if found:
+        return 1
+    # what a check of each crate keeps is there for its edits
+    for crate in {edit.crate for edit in wanted}:
+        status, said = copies.check(base, crate, jobs=copies.JOBS)
+        if status:
+            print(f'{said}\ntally: {crate} is not proved as it stands')
+            return 1
+    roots, failed = queue.Queue(), []
+    for number in range(copies.JOBS):
+        roots.put(os.path.join(work, f'tally-{number}'))
+
+    def one(edit):
+        root = roots.get()
+        try:
+            return edit, *tried(edit, root, base, printed)
+        finally:
+            roots.put(root)
+
+    with concurrent.futures.ThreadPoolExecutor(copies.JOBS) as pool:
+        for edit, good, said in pool.map(one, wanted):
+            print(said, flush=True)
+            failed += [edit.name] * (not good)
+    print(f'tally: {len(wanted)} edits, {len(failed)} not as they say')
+    return 1 if failed else 0
 
 
 def run(root, names):
-    copy = pathlib.Path(os.environ.get('FRAUDS_COPY') or root / 'target/frauds').resolve()
     found = [Edit(path) for path in sorted(root.glob('crates/*/fence/*.edit'))]
     wanted = [e for e in found if not names or e.path.stem in names]
     if not wanted or len(wanted) < len(names):
         print('tally: no such edit')
         return 2
-    make(root, copy)
-    base = prints.of_all(copy)
-    if breaches(base):
-        print('tally: the crates break a rule as they stand')
-        return 1
-    failed = [e.name for e in wanted if not tried(e, root, copy, base)]
-    print(f'tally: {len(wanted)} edits, {len(failed)} not as they say')
-    return 1 if failed else 0
+    work = os.environ.get('FRAUDS_COPY')
+    if work:
+        os.makedirs(work, exist_ok=True)
+        return try_in(os.path.abspath(work), wanted)
+    with tempfile.TemporaryDirectory(prefix='tally-') as work:
+        return try_in(work, wanted)

@@ -1,7 +1,9 @@
-"""Gets the prints of the crates that the rules are about, and finds where in the sources a breach stands."""
+"""Gets the code of the crates that the rules are about, and finds where in the sources a breach stands."""
+import pathlib
 import re
-import subprocess
+import tempfile
 
+import copies
 from mir import Unknown
 from program import REPORTING, short
 
@@ -12,19 +14,25 @@ class Rejected(Unknown):
     """Raised if the compiler rejects the crate."""
 
 
-def of(crate, root):
-    """Returns what `rt mir` prints for a crate. The crates that it uses have to be proved; `rt` proves those that are not."""
-    run = subprocess.run(['rt', 'mir', crate], cwd=root, capture_output=True, text=True, stdin=subprocess.DEVNULL)
-    if run.returncode == 0:
-        return run.stdout
-    error = re.search(r'src/\S+: error\[[^\n]*', run.stdout + run.stderr)
-    if error:
-        raise Rejected(error.group())
-    raise Unknown(f'`rt mir {crate}` fails: {(run.stdout + run.stderr)[-400:]}')
+def of(crate, root, functions=(), jobs=1):
+    """Returns the texts of the modules that `rt check --generated` writes for a crate's functions, or for some of them, by the names of
+    the functions. It writes them whether or not a proof fails. The crates that it uses have to be proved; `rt` proves those that are
+    not."""
+    with tempfile.TemporaryDirectory(prefix='tally-') as folder:
+        words = [word for name in functions for word in ('--start', name)]
+        status, said = copies.check(root, crate, '--generated', folder, *words, jobs=jobs)
+        error = re.search(r'^src/\S+: error\[[^\n]*', said, re.M)
+        if error:
+            raise Rejected(error.group())
+        if not re.search(r'^generated=\d+$', said, re.M):
+            raise Unknown(f'`rt check --generated` of {crate} ends with {status}: {said[-400:]}')
+        top = pathlib.Path(folder) / f'Rattle-{crate}-proofs'
+        paths = {path: path.parent.parent.relative_to(top).parts for path in top.glob('**/Code/Mir.antt')}
+        return {'::'.join((crate, *parts)).replace('+', ''): path.read_text() for path, parts in paths.items()}
 
 
 def of_all(root):
-    return {crate: of(crate, root) for crate in CRATES}
+    return {crate: of(crate, root, jobs=copies.JOBS) for crate in CRATES}
 
 
 def told(breach, root):
@@ -36,7 +44,7 @@ def place(name, root):
     """Returns the file and line of a function, as far as its name tells."""
     crate, *path = name.split('::')
     source = root / 'crates' / crate / 'src'
-    for file in (source / f'{path[0]}.rt', source / 'lib.rt', source / 'main.rt'):
+    for file in (source / f'{"/".join(path[:-1])}.rt', source / f'{path[0]}.rt', source / 'lib.rt', source / 'main.rt'):
         lines = file.read_text().split('\n') if file.is_file() else []
         for number, line in enumerate(lines, 1):
             if re.search(rf'\bfn {re.escape(path[-1])}\b', line):

@@ -22,7 +22,7 @@ class Code:
     def __init__(self, program):
         self.program, self.functions = program, program.functions
         self.called = {f.name: [callee(c) for c in calls(f.body)] for f in self.functions.values()}
-        self.expect(START, LESSER, GREATER, COUNTED, CHOSEN, NUMBER, LINE, *OTHER_PARTS, *OTHER_PARTS.values())
+        self.expect(START, LESSER, GREATER, COUNTED, CHOSEN, NUMBER, *OTHER_PARTS, *OTHER_PARTS.values())
         self.sweeping = self.reaching({LESSER, GREATER})
         self.library = [f for f in self.of('imgproc') if not f.name.startswith(MODULE)]
         self.above = [f for crate in REPORTING for f in self.of(crate)]
@@ -32,6 +32,7 @@ class Code:
         """Raises Unknown if a function is missing: a rule that finds nothing to look at must not pass."""
         missing = [n for n in names if n not in self.functions]
         missing += [n for n in (TALLY, MET) if n not in self.program.variants]
+        missing += [f'call of {n}' for n in (LINE,) if not self.callers(n)]
         readers = {name.split('::')[0] for name in self.callers(NUMBER)}
         missing += [f'reader of a tally in {crate}' for crate in REPORTING if crate not in readers]
         if missing:
@@ -53,12 +54,12 @@ class Code:
 
     def carries(self, kind):
         """Tells whether a value of this type has a tally in it, or behind a reference in it."""
-        return self.program.holds(kind, lambda t: t[:1] == ['tyNamed'] and t[1][1] == TALLY)
+        return self.program.holds(kind, lambda t: t[:2] == ['ty_named', TALLY])
 
     def lends_bytes(self, kind):
         """Tells whether bytes can be reached through a value of this type."""
         return self.program.holds(
-            kind, lambda t: t == 'tyPtr' or t[:1] == ['tyRef'] and t[3] == BYTE or t[:2] == ['tyArray', BYTE]
+            kind, lambda t: t == 'ty_ptr' or t[:1] == ['ty_ref'] and t[3] == BYTE or t[:2] == ['ty_array', BYTE]
         )
 
     def is_sample(self, function, operand):

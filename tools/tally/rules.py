@@ -1,7 +1,7 @@
 """The rules. Each is a function. Its comment gives first the sentence of document 01, part 2, and then what the rule checks. It
 yields each function that breaks the rule, and what that function does."""
 import mir
-from mir import BYTE, callee, calls, head, items, operands, statements
+from mir import BYTE, callee, calls, head, items, operands, statements, type_arguments
 from program import CHOSEN, COUNTED, GREATER, LESSER, MODULE, NUMBER, OTHER_PARTS, START, Code, short
 from ways import HandedOn, Reported
 
@@ -10,7 +10,7 @@ def an_extreme_compares_once(code):
     """Only two small functions, the lesser and the greater of two samples, compare samples and raise a tally. Each compares its two
     samples once and adds once; nothing else makes a tally but the start, and nothing else computes with one."""
     known = {START: [], LESSER: ['add', 'lt'], GREATER: ['add', 'lt'], COUNTED: [], CHOSEN: [], NUMBER: []}
-    samples = ['(copy (place 2 lnil))', '(copy (place 3 lnil))']
+    samples = ['(copy (place 2 []))', '(copy (place 3 []))']
     for f in code.functions.values():
         if not f.name.startswith(MODULE):
             continue
@@ -40,7 +40,7 @@ def the_extremes_are_called_in_one_place(code):
             yield LESSER, 'or `greater` is not called'
     for f in code.functions.values():
         for call in calls(f.body):
-            if callee(call) in (LESSER, GREATER, code.meeting) and any(a[:2] == ['int', '8'] for a in items(call[2])):
+            if callee(call) in (LESSER, GREATER, code.meeting) and any(a[:2] == ['int', 'w8'] for a in items(call[2])):
                 yield f.name, f'calls `{short(callee(call))}` with a number that is no sample'
 
 
@@ -51,6 +51,9 @@ def what_carries_a_tally_is_handed_on_once(code):
     for f in code.library + code.above:
         if any(map(code.carries, f.types)):
             yield from HandedOn(code, f).broken
+            for call in calls(f.body):
+                if any(map(code.carries, type_arguments(call))):
+                    yield f.name, f'hands a tally to `{short(callee(call))}` under a type parameter'
 
 
 def each_call_that_sweeps_starts_one_tally(code):
@@ -110,7 +113,7 @@ def kinds(code, f, given):
 def moved_or_met(code, f):
     """Yields what a function does with a sample besides loading it, storing it and giving it to the extremes."""
     for s in statements(f.body):
-        if s[0] in ('if', 'switch') and code.is_sample(f, s[1]):
+        if s[0] in ('cond', 'switch') and code.is_sample(f, s[1]):
             yield f.name, 'decides by a sample'
         if s[0] == 'assign':
             for what in assigned(code, f, s[1], s[2]):
@@ -126,7 +129,7 @@ def moved_or_met(code, f):
 def assigned(code, f, place, value):
     steps = items(place[2])
     samples = [o for o in operands(value) if code.is_sample(f, o)]
-    if samples and value[0] != 'rvOpd':
+    if samples and value[0] != 'rv_opd':
         yield 'computes with a sample, or puts one into something'
     if samples and steps and steps[-1] != ['deref', BYTE]:
         yield 'keeps a sample in a part of something'

@@ -1,6 +1,6 @@
 """Follows every path through a function, from its first statement to each return, and notes what a rule has to know about it."""
 import mir
-from mir import TAG, Unknown, callee, head, items, operands, statements
+from mir import TAG, Unknown, callee, filled, head, items, operands, statements
 from program import CHOSEN, COUNTED, LINE, MET, NUMBER, REFUSALS, short
 
 NOTHING = frozenset()
@@ -39,7 +39,7 @@ class Ways:
             return self.assign(s[1], s[2], state)
         if kind == 'call':
             return self.call(callee(s), items(s[2]), s[3], state)
-        if kind == 'if':
+        if kind == 'cond':
             return self.meet([self.follow(s[2], state), self.follow(s[3], state)])
         if kind == 'switch':
             return self.meet([self.follow(arm, self.arm(s[1], numbers, state)) for numbers, arm in mir.arms(s)])
@@ -49,7 +49,7 @@ class Ways:
             self.scopes[-1 - int(s[1])].append(state)
         elif kind == 'return':
             self.leave(state)
-        else:
+        elif kind != 'unreachable':
             raise Unknown(f'the statement {kind}')
         return None
 
@@ -88,20 +88,20 @@ class HandedOn(Ways):
         types = self.function.types
         self.origin = {n: 'that it is passed' for n in range(1, self.function.takes + 1)}
         for n, kind in enumerate(types):
-            if self.code.carries(kind) and (kind[3] if kind[0] == 'tyRef' else kind)[0] != 'tyNamed':
+            if self.code.carries(kind) and (kind[3] if kind[0] == 'ty_ref' else kind)[0] != 'ty_named':
                 self.no('has a tally in an array or a slice')
         if self.code.carries(types[0]) and self.lent(0):
             self.no('gives out a reference to a tally')
         return {n: self.whole(kind) for n, kind in enumerate(self.function.parameters(), 1) if self.code.carries(kind)}
 
     def lent(self, n):
-        return self.function.types[n][0] == 'tyRef'
+        return self.function.types[n][0] == 'ty_ref'
 
     def passed(self, n):
         return 0 < n <= self.function.takes
 
     def whole(self, kind):
-        return frozenset({'tally', 'value'} if kind[:1] == ['tyNamed'] and kind[1][1] == MET else {'tally'})
+        return frozenset({'tally', 'value'} if kind[:2] == ['ty_named', MET] else {'tally'})
 
     def what(self, n, parts):
         name = next((name for part, name in NAMES.items() if part in parts), 'the tally')
@@ -129,8 +129,8 @@ class HandedOn(Ways):
         if numbers is None or head(operand) != 'copy' or self.kind(operand[1]) != TAG or len(items(operand[1][2])) != 2:
             return state
         n = int(operand[1][1])
-        name = self.function.types[n][1][1]
-        fields = [kind for number in numbers for kind in self.code.program.variants[name][number]]
+        name, arguments = self.function.types[n][1], items(self.function.types[n][2])
+        fields = [filled(kind, arguments) for number in numbers for kind in self.code.program.variants[name][number]]
         return state if any(map(self.code.carries, fields)) else {**state, n: NOTHING}
 
     def leave(self, state):
@@ -195,10 +195,10 @@ class HandedOn(Ways):
         return self.put(place, frozenset({'reference'}), 'of its own', state)
 
     def assign(self, place, value, state):
-        if value[0] == 'addrOf':
+        if value[0] == 'addr_of':
             return self.lend(place, value[1], state) if self.code.carries(self.kind(value[1])) else state
         given, origin = NOTHING, 'that it puts together'
-        if value[0] == 'rvOpd' and head(value[1]) == 'copy':
+        if value[0] == 'rv_opd' and head(value[1]) == 'copy':
             n = int(value[1][1][1])
             given, origin = state.get(n, NOTHING) & {'sample', 'number'}, self.origin.get(n, origin)
             state = {**state, n: state.get(n, NOTHING) - given}
@@ -211,6 +211,8 @@ class HandedOn(Ways):
         for argument in arguments:
             state = self.use(argument, state, name)
         kind = self.kind(place)
+        if self.code.carries(kind) and name not in self.code.functions:
+            self.no(f'takes a tally from `{short(name)}`, whose statements are not in the print')
         given = frozenset({CHOSEN: {'sample'}, NUMBER: {'number'}}.get(name, NOTHING))
         parts = self.whole(kind) if self.code.carries(kind) else given
         return self.put(place, parts, f'that `{short(name)}` gives', state)
