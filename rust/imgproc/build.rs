@@ -1,4 +1,4 @@
-//! Finds the static library in $IMGPROC_LIB_DIR, or else where `rt staticlib imgproc_c` writes it.
+//! Finds the static library in $IMGPROC_LIB_DIR, or else where `tools/archive` puts it.
 
 use std::env;
 use std::path::{Path, PathBuf};
@@ -19,7 +19,7 @@ fn main() {
     let archive = folder.join(ARCHIVE);
     println!("cargo:rerun-if-changed={}", archive.display());
     if !archive.is_file() {
-        eprintln!("no {ARCHIVE} in {}: run `rt staticlib imgproc_c`, or set IMGPROC_LIB_DIR", folder.display());
+        eprintln!("no {ARCHIVE} in {}: run `tools/archive`, or set IMGPROC_LIB_DIR", folder.display());
         exit(1);
     }
     println!("cargo:rustc-link-search=native={}", folder.display());

@@ -114,15 +114,15 @@ fn fill(
         }) }
     ensures { Fills
         (record {
-          src = src.entry.now;
+          src = src.now;
           source = geometry;
           settings = config;
-          workspace = workspace.entry.now;
+          workspace = workspace.old;
           thresholds = thresholds.old;
           skips = skips.old;
         })
         (record {
-          workspace = workspace.exit.now;
+          workspace = workspace.new;
           thresholds = thresholds.new;
           skips = skips.new;
         }) }
@@ -146,16 +146,16 @@ impl TileThresholdGrid {
     ) -> Built
         ensures { Builds
             (record {
-              src = src.entry.now;
+              src = src.now;
               source = geometry;
               settings = config;
-              workspace = workspace.entry.now;
+              workspace = workspace.old;
               thresholds = thresholds.old;
               skips = skips.old;
             })
             (built_answer result)
             (record {
-              workspace = workspace.exit.now;
+              workspace = workspace.new;
               thresholds = thresholds.new;
               skips = skips.new;
             }) }

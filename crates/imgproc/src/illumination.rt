@@ -127,15 +127,15 @@ fn divide_picture(
         }) }
     ensures { Works division
         (record {
-          src = src.entry.now;
+          src = src.now;
           source = src_geometry;
-          dst = dst.entry.now;
+          dst = dst.old;
           target = dst_geometry;
           settings = config;
           workspace = workspace.old;
         })
         result
-        (record { dst = dst.exit.now; workspace = workspace.new }) }
+        (record { dst = dst.new; workspace = workspace.new }) }
 {
     let plane = src_geometry.width * src_geometry.height;
     let tally = flatten(start(), src, src_geometry, config, workspace);
@@ -170,15 +170,15 @@ pub fn background_divide_into(
 ) -> Compared
     ensures { Serves division
         (record {
-          src = src.entry.now;
+          src = src.now;
           source = src_geometry;
-          dst = dst.entry.now;
+          dst = dst.old;
           target = dst_geometry;
           settings = config;
           workspace = workspace.old;
         })
         (compared_answer result)
-        (record { dst = dst.exit.now; workspace = workspace.new }) }
+        (record { dst = dst.new; workspace = workspace.new }) }
 {
     let layout = image::validate_layout(src.len(), src_geometry);
     let Layout::Valid(g) = layout else {

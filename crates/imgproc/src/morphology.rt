@@ -87,15 +87,15 @@ fn run(
         }) }
     ensures { Works (morphology operation)
         (record {
-          src = src.entry.now;
+          src = src.now;
           source = src_geometry;
-          dst = dst.entry.now;
+          dst = dst.old;
           target = dst_geometry;
           settings = kernel;
           workspace = workspace.old;
         })
         result
-        (record { dst = dst.exit.now; workspace = workspace.new }) }
+        (record { dst = dst.new; workspace = workspace.new }) }
 {
     let width = src_geometry.width;
     let height = src_geometry.height;
@@ -117,15 +117,15 @@ fn apply_into(
 ) -> Compared
     ensures { Serves (morphology operation)
         (record {
-          src = src.entry.now;
+          src = src.now;
           source = src_geometry;
-          dst = dst.entry.now;
+          dst = dst.old;
           target = dst_geometry;
           settings = kernel_size;
           workspace = workspace.old;
         })
         (compared_answer result)
-        (record { dst = dst.exit.now; workspace = workspace.new }) }
+        (record { dst = dst.new; workspace = workspace.new }) }
 {
     let layout = image::validate_layout(src.len(), src_geometry);
     let Layout::Valid(g) = layout else {
@@ -164,15 +164,15 @@ pub fn grayscale_erode_into(
 ) -> Compared
     ensures { Serves erosion
         (record {
-          src = src.entry.now;
+          src = src.now;
           source = src_geometry;
-          dst = dst.entry.now;
+          dst = dst.old;
           target = dst_geometry;
           settings = kernel_size;
           workspace = workspace.old;
         })
         (compared_answer result)
-        (record { dst = dst.exit.now; workspace = workspace.new }) }
+        (record { dst = dst.new; workspace = workspace.new }) }
 {
     apply_into(
         src,
@@ -196,15 +196,15 @@ pub fn grayscale_dilate_into(
 ) -> Compared
     ensures { Serves dilation
         (record {
-          src = src.entry.now;
+          src = src.now;
           source = src_geometry;
-          dst = dst.entry.now;
+          dst = dst.old;
           target = dst_geometry;
           settings = kernel_size;
           workspace = workspace.old;
         })
         (compared_answer result)
-        (record { dst = dst.exit.now; workspace = workspace.new }) }
+        (record { dst = dst.new; workspace = workspace.new }) }
 {
     apply_into(
         src,
@@ -228,15 +228,15 @@ pub fn grayscale_open_into(
 ) -> Compared
     ensures { Serves opening
         (record {
-          src = src.entry.now;
+          src = src.now;
           source = src_geometry;
-          dst = dst.entry.now;
+          dst = dst.old;
           target = dst_geometry;
           settings = kernel_size;
           workspace = workspace.old;
         })
         (compared_answer result)
-        (record { dst = dst.exit.now; workspace = workspace.new }) }
+        (record { dst = dst.new; workspace = workspace.new }) }
 {
     apply_into(
         src,
@@ -260,15 +260,15 @@ pub fn grayscale_close_into(
 ) -> Compared
     ensures { Serves closing
         (record {
-          src = src.entry.now;
+          src = src.now;
           source = src_geometry;
-          dst = dst.entry.now;
+          dst = dst.old;
           target = dst_geometry;
           settings = kernel_size;
           workspace = workspace.old;
         })
         (compared_answer result)
-        (record { dst = dst.exit.now; workspace = workspace.new }) }
+        (record { dst = dst.new; workspace = workspace.new }) }
 {
     apply_into(
         src,

@@ -112,16 +112,16 @@ fn read_picture(
         }) }
     ensures { ReadDone
         (record {
-          src = src.entry.now;
+          src = src.now;
           source = src_geometry;
-          dst = dst.entry.now;
+          dst = dst.old;
           target = dst_geometry;
           settings = config;
           bytes = bytes.old;
           u64s = u64s.old;
         })
         result
-        (record { dst = dst.exit.now; bytes = bytes.new; u64s = u64s.new }) }
+        (record { dst = dst.new; bytes = bytes.new; u64s = u64s.new }) }
 {
     let packed = Geometry {
         width: src_geometry.width,
@@ -196,16 +196,16 @@ pub fn reading(
 ) -> Read
     ensures { Reads
         (record {
-          src = src.entry.now;
+          src = src.now;
           source = src_geometry;
-          dst = dst.entry.now;
+          dst = dst.old;
           target = dst_geometry;
           settings = config;
           bytes = bytes.old;
           u64s = u64s.old;
         })
         (read_answer result)
-        (record { dst = dst.exit.now; bytes = bytes.new; u64s = u64s.new }) }
+        (record { dst = dst.new; bytes = bytes.new; u64s = u64s.new }) }
 {
     let layout = image::validate_layout(src.len(), src_geometry);
     let Layout::Valid(g) = layout else {

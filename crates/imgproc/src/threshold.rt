@@ -260,15 +260,15 @@ pub fn sauvola_into(
 ) -> Binarized
     ensures { Serves sauvola
         (record {
-          src = src.entry.now;
+          src = src.now;
           source = src_geometry;
-          dst = dst.entry.now;
+          dst = dst.old;
           target = dst_geometry;
           settings = config;
           workspace = workspace.old;
         })
         (binarized_answer result)
-        (record { dst = dst.exit.now; workspace = workspace.new }) }
+        (record { dst = dst.new; workspace = workspace.new }) }
 {
     let layout = image::validate_layout(src.len(), src_geometry);
     let Layout::Valid(g) = layout else {

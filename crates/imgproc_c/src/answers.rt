@@ -79,14 +79,14 @@ pub(crate) fn read(
 ) -> u32
     ensures { Tells (read_answer answer)
         (record {
-          dark = dark.entry.now;
+          dark = dark.old;
           light = light.old;
           skipped = skipped.old;
           comparisons = comparisons.old;
         })
         result
         (record {
-          dark = dark.exit.now;
+          dark = dark.new;
           light = light.new;
           skipped = skipped.new;
           comparisons = comparisons.new;

@@ -47,17 +47,17 @@ pub extern "C" fn imgproc_tile_grid_build(
 ) -> u32
     ensures { BuildsNumber method
         (record {
-          src = src.entry.now;
+          src = src.now;
           source = geometry width height stride;
           settings = settings tile_width tile_height neighborhood_radius threshold_offset contrast_floor
               (method_of method k dynamic_range);
-          workspace = workspace.entry.now;
+          workspace = workspace.old;
           thresholds = thresholds.old;
           skips = skips.old;
         })
         (record { tiles_x = tiles_x.old; tiles_y = tiles_y.old })
         result
-        (record { workspace = workspace.exit.now; thresholds = thresholds.new; skips = skips.new })
+        (record { workspace = workspace.new; thresholds = thresholds.new; skips = skips.new })
         (record { tiles_x = tiles_x.new; tiles_y = tiles_y.new }) }
 {
     let geometry = Geometry {

@@ -26,16 +26,16 @@ pub extern "C" fn imgproc_background_divide_into(
 ) -> u32
     ensures { Exports division
         (record {
-          src = src.entry.now;
+          src = src.now;
           source = geometry src_width src_height src_stride;
-          dst = dst.entry.now;
+          dst = dst.old;
           target = geometry dst_width dst_height dst_stride;
           settings = division_from structuring_element target_luma denominator_floor;
           workspace = workspace.old;
         })
         comparisons.old
         result
-        (record { dst = dst.exit.now; workspace = workspace.new })
+        (record { dst = dst.new; workspace = workspace.new })
         comparisons.new }
 {
     let source = Geometry {

@@ -22,16 +22,16 @@ pub extern "C" fn imgproc_grayscale_erode_into(
 ) -> u32
     ensures { Exports erosion
         (record {
-          src = src.entry.now;
+          src = src.now;
           source = geometry src_width src_height src_stride;
-          dst = dst.entry.now;
+          dst = dst.old;
           target = geometry dst_width dst_height dst_stride;
           settings = kernel_size;
           workspace = workspace.old;
         })
         comparisons.old
         result
-        (record { dst = dst.exit.now; workspace = workspace.new })
+        (record { dst = dst.new; workspace = workspace.new })
         comparisons.new }
 {
     let source = Geometry {
@@ -71,16 +71,16 @@ pub extern "C" fn imgproc_grayscale_dilate_into(
 ) -> u32
     ensures { Exports dilation
         (record {
-          src = src.entry.now;
+          src = src.now;
           source = geometry src_width src_height src_stride;
-          dst = dst.entry.now;
+          dst = dst.old;
           target = geometry dst_width dst_height dst_stride;
           settings = kernel_size;
           workspace = workspace.old;
         })
         comparisons.old
         result
-        (record { dst = dst.exit.now; workspace = workspace.new })
+        (record { dst = dst.new; workspace = workspace.new })
         comparisons.new }
 {
     let source = Geometry {
@@ -120,16 +120,16 @@ pub extern "C" fn imgproc_grayscale_open_into(
 ) -> u32
     ensures { Exports opening
         (record {
-          src = src.entry.now;
+          src = src.now;
           source = geometry src_width src_height src_stride;
-          dst = dst.entry.now;
+          dst = dst.old;
           target = geometry dst_width dst_height dst_stride;
           settings = kernel_size;
           workspace = workspace.old;
         })
         comparisons.old
         result
-        (record { dst = dst.exit.now; workspace = workspace.new })
+        (record { dst = dst.new; workspace = workspace.new })
         comparisons.new }
 {
     let source = Geometry {
@@ -169,16 +169,16 @@ pub extern "C" fn imgproc_grayscale_close_into(
 ) -> u32
     ensures { Exports closing
         (record {
-          src = src.entry.now;
+          src = src.now;
           source = geometry src_width src_height src_stride;
-          dst = dst.entry.now;
+          dst = dst.old;
           target = geometry dst_width dst_height dst_stride;
           settings = kernel_size;
           workspace = workspace.old;
         })
         comparisons.old
         result
-        (record { dst = dst.exit.now; workspace = workspace.new })
+        (record { dst = dst.new; workspace = workspace.new })
         comparisons.new }
 {
     let source = Geometry {

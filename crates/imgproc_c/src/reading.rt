@@ -48,9 +48,9 @@ pub extern "C" fn imgproc_reading(
 ) -> u32
     ensures { ReadsNumber method
         (record {
-          src = src.entry.now;
+          src = src.now;
           source = geometry src_width src_height src_stride;
-          dst = dst.entry.now;
+          dst = dst.old;
           target = geometry dst_width dst_height dst_stride;
           settings = reading_from
               (division_from structuring_element target_luma denominator_floor)
@@ -62,15 +62,15 @@ pub extern "C" fn imgproc_reading(
           u64s = u64s.old;
         })
         (record {
-          dark = dark.entry.now;
+          dark = dark.old;
           light = light.old;
           skipped = skipped.old;
           comparisons = comparisons.old;
         })
         result
-        (record { dst = dst.exit.now; bytes = bytes.new; u64s = u64s.new })
+        (record { dst = dst.new; bytes = bytes.new; u64s = u64s.new })
         (record {
-          dark = dark.exit.now;
+          dark = dark.new;
           light = light.new;
           skipped = skipped.new;
           comparisons = comparisons.new;

@@ -27,16 +27,16 @@ pub extern "C" fn imgproc_sauvola_into(
 ) -> u32
     ensures { Exports sauvola
         (record {
-          src = src.entry.now;
+          src = src.now;
           source = geometry src_width src_height src_stride;
-          dst = dst.entry.now;
+          dst = dst.old;
           target = geometry dst_width dst_height dst_stride;
           settings = sauvola_from radius k_milli dynamic_range dark_value light_value;
           workspace = workspace.old;
         })
         bare
         result
-        (record { dst = dst.exit.now; workspace = workspace.new })
+        (record { dst = dst.new; workspace = workspace.new })
         bare }
 {
     let source = Geometry {

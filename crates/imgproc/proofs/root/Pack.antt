@@ -25,7 +25,7 @@ use native.Mathlib.Nat.{
 use mathlib.Core.Bool.{Bool, true, false, cond, true≢false}
 use lib.Dec.{T, leb, eqb, leb→le, eqb→eq, not_T, lit<}
 use lib.Pow.{pow_pos, pow-add, pow-lt, shl_lt, shl-shr}
-use lib.Ieee.{Float, nan, inf, fin, binary64, low, down, size, odd, units, of_fields, of_bits, to_bits}
+use lib.Ieee.{Float, nan, inf, fin, binary64, down, size, odd, units, of_fields, of_bits, to_bits}
 use lib.Ieee.Bits.{is_false, cond_no}
 use lib.Ieee.Fits.{down_pos}
 use lib.Ieee.Exact.{HasValue, odd_sign, units_val}

@@ -160,7 +160,7 @@ fn gather_tiles(
         (record { src = src.now; source = geometry; settings = config; workspace = workspace.old; at = at }) }
     ensures { Gathers
         (record {
-          src = src.entry.now;
+          src = src.now;
           source = geometry;
           settings = config;
           workspace = workspace.old;
@@ -192,7 +192,7 @@ pub(crate) fn gather(
         (record { src = src.now; source = geometry; settings = config; workspace = workspace.old; at = at }) }
     ensures { Gathers
         (record {
-          src = src.entry.now;
+          src = src.now;
           source = geometry;
           settings = config;
           workspace = workspace.old;

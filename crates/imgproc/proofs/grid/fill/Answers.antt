@@ -25,18 +25,18 @@ pub write_skips-requires : goal.write_skips-requires
 write_skips-requires c =
     (c.requires.sized, record { picture = _; gathered = c.gather.ensures.gathered }, omega (arith, c.requires.rooms.skips))
 
--- TURN: place lost; place lost; place lost; place lost
 pub returns : goal.returns
 returns c =
     let a = c.args in
+    let s = (goal.at.returns c).Start in
     record {
       thresholds_left =
           c.write_thresholds.ensures
           ∙ ap (λ (p : List ℕ). overwritten 0 p a.thresholds.now)
-          (thresholds_are (lent c) (ready c) c.gather.ensures);
+          (thresholds_are (lent s) (ready s) c.gather.ensures);
       skips_left =
           c.write_skips.ensures
           ∙ ap (λ (p : List ℕ). overwritten 0 p a.skips.now)
-          (skips_are (lent c) (ready c) c.gather.ensures);
+          (skips_are (lent s) (ready s) c.gather.ensures);
       long = c.gather.ensures.long;
     }

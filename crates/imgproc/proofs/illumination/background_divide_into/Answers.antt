@@ -14,12 +14,11 @@ use Rattle.imgproc.proofs.morphology.Ways.{room_short, room_enough}
 use Rattle.imgproc.proofs.illumination.background_divide_into.Goals as goal
 use Rattle.imgproc.proofs.illumination.background_divide_into.Goals.{Else-g-h-2}
 
--- TURN: no field before.layout.given.0.0; no field before.target.given.0.0
 pair : (c : Else-g-h-2)
     → let a = c.args in
     Pair (length a.src.now) a.src_geometry (length a.dst.now) a.dst_geometry
-    c.before.layout.given.0.0
-    c.before.target.given.0.0
+    c.in-Valid.g
+    c.in-Valid-target.h
 pair c = search pair_of
 
 pub returns-in_default : goal.returns-in_default
@@ -63,11 +62,10 @@ shape_of-dst c = c.divide_picture.auto.dst
 pub shape_of-workspace : goal.shape_of-workspace
 shape_of-workspace c = c.divide_picture.auto.workspace
 
--- TURN: no field before.layout.given.0.0
 pub returns : goal.returns
 returns c =
     let a = c.args in
-    let g = c.before.layout.given.0.0 in
+    let g = c.in-Valid.g in
     let room = refused_if (ltb (length a.workspace.now) (7 * (g.width * g.height))) WorkspaceTooSmall in
     worked (pair (goal.at.returns c).Else-g-h-2)
     (then_accepted (division_settings a.config) room (sym c.check_settings-settings.ensures ∙ c.in_default-settings.is) ∙ room_enough _ _ c.if-workspace-g.false)

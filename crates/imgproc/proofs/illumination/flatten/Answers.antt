@@ -11,11 +11,11 @@ close_rect_into-raised-requires c =
 pub divide_plane-requires : goal.divide_plane-requires
 divide_plane-requires c =
     record {
-  floor = search rules;
-  pixels = search rules;
-  backgrounds = search rules;
-  apart = record { clear = inl (search rules) };
-}
+      floor = search rules;
+      pixels = search rules;
+      backgrounds = search rules;
+      apart = record { clear = inl (search rules) };
+    }
 
 pub returns : goal.returns
 returns c =

@@ -10,12 +10,11 @@ use Rattle.imgproc.proofs.morphology.Ways.{kernel_good, room_enough, kernel-ways
 use Rattle.imgproc.proofs.morphology.apply_into.Goals as goal
 use Rattle.imgproc.proofs.morphology.apply_into.Goals.{Else-g-h-2}
 
--- TURN: no field before.layout.given.0.0; no field before.target.given.0.0
 pair : (c : Else-g-h-2)
     → let a = c.args in
     Pair (length a.src.now) a.src_geometry (length a.dst.now) a.dst_geometry
-    c.before.layout.given.0.0
-    c.before.target.given.0.0
+    c.in-Valid.g
+    c.in-Valid-target.h
 pair c = search pair_of
 
 pub returns-in_default : goal.returns-in_default

@@ -31,12 +31,6 @@ entries t = entries_small _ _ t.requires.small_width t.requires.small_height
 pub overflow_mul-count : goal.overflow_mul-count
 overflow_mul-count c = omega (arith, tiles (goal.at.overflow_mul-count c).After-tiles_along-2)
 
-pub overflow_mul-width : goal.overflow_mul-width
-overflow_mul-width c = omega (arith, area (goal.at.overflow_mul-width c).After-tiles_along-2)
-
-pub overflow_mul-width-2 : goal.overflow_mul-width-2
-overflow_mul-width-2 c = omega (arith, area (goal.at.overflow_mul-width-2 c).After-tiles_along-2)
-
 pub overflow_mul-count-2 : goal.overflow_mul-count-2
 overflow_mul-count-2 c = omega (arith, tiles (goal.at.overflow_mul-count-2 c).After-tiles_along-2)
 
@@ -44,22 +38,16 @@ pub overflow_add-width : goal.overflow_add-width
 overflow_add-width c = omega (arith, tiles (goal.at.overflow_add-width c).After-tiles_along-2, area (goal.at.overflow_add-width c).After-tiles_along-2)
 
 pub returns-then-bytes-width : goal.returns-then-bytes-width
-returns-then-bytes-width c =  bytes_short c.args.geometry c.args.config _ _ _ (count (goal.at.returns-then-bytes-width c).After-tiles_along-2) c.if-bytes-width.true
-
-pub overflow_mul-width-3 : goal.overflow_mul-width-3
-overflow_mul-width-3 c =  omega (arith, entries (goal.at.overflow_mul-width-3 c).After-tiles_along-2)
-
-pub overflow_mul-width-4 : goal.overflow_mul-width-4
-overflow_mul-width-4 c =  omega (arith, entries (goal.at.overflow_mul-width-4 c).After-tiles_along-2)
+returns-then-bytes-width c = bytes_short c.args.geometry c.args.config _ _ _ (count (goal.at.returns-then-bytes-width c).After-tiles_along-2) c.if-bytes-width.true
 
 pub overflow_mul-count-3 : goal.overflow_mul-count-3
-overflow_mul-count-3 c =  omega (arith, tiles (goal.at.overflow_mul-count-3 c).After-tiles_along-2)
+overflow_mul-count-3 c = omega (arith, tiles (goal.at.overflow_mul-count-3 c).After-tiles_along-2)
 
 pub overflow_add-width-3 : goal.overflow_add-width-3
-overflow_add-width-3 c =  omega (arith, tiles (goal.at.overflow_add-width-3 c).After-tiles_along-2, entries (goal.at.overflow_add-width-3 c).After-tiles_along-2)
+overflow_add-width-3 c = omega (arith, tiles (goal.at.overflow_add-width-3 c).After-tiles_along-2, entries (goal.at.overflow_add-width-3 c).After-tiles_along-2)
 
 pub returns-then-u64s-width : goal.returns-then-u64s-width
-returns-then-u64s-width c =  u64s_short c.args.geometry c.args.config _ _ _ (count (goal.at.returns-then-u64s-width c).After-tiles_along-2) c.if-bytes-width.false c.if-u64s-width.true
+returns-then-u64s-width c = u64s_short c.args.geometry c.args.config _ _ _ (count (goal.at.returns-then-u64s-width c).After-tiles_along-2) c.if-bytes-width.false c.if-u64s-width.true
 
 pub returns : goal.returns
-returns c =  room_enough c.args.geometry c.args.config _ _ _ (count (goal.at.returns c).After-tiles_along-2) c.if-bytes-width.false c.if-u64s-width.false
+returns c = room_enough c.args.geometry c.args.config _ _ _ (count (goal.at.returns c).After-tiles_along-2) c.if-bytes-width.false c.if-u64s-width.false

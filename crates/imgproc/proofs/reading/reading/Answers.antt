@@ -7,12 +7,11 @@ use Rattle.imgproc.proofs.reading.Ways.{says, room_says, refused_call, done}
 use Rattle.imgproc.proofs.reading.reading.Goals as goal
 use Rattle.imgproc.proofs.reading.reading.Goals.{Else-g-h-2}
 
--- TURN: no field before.layout.given.0.0; no field before.target.given.0.0
 pair : (c : Else-g-h-2)
     → let a = c.args in
     Pair (length a.src.now) a.src_geometry (length a.dst.now) a.dst_geometry
-    c.before.layout.given.0.0
-    c.before.target.given.0.0
+    c.in-Valid.g
+    c.in-Valid-target.h
 pair c = search pair_of
 
 pub returns-in_default : goal.returns-in_default
@@ -46,23 +45,13 @@ check_room-room-requires c =
 pub returns-in-Refused-room : goal.returns-in-Refused-room
 returns-in-Refused-room c = refused_call c.in-Refused-room.error (search ways)
 
--- TURN: no field before.layout.given.0.0
 pub read_picture-requires : goal.read_picture-requires
 read_picture-requires c =
     let p = pair (goal.at.read_picture-requires c).Else-g-h-2 in
     let y = says c.args.config (sym c.check_settings-settings.ensures ∙ c.in_default-settings.is) in
-    let g = c.before.layout.given.0.0 in
+    let g = c.in-Valid.g in
     let fit = room_says g c.args.config _ _ (sym c.check_room-room.ensures ∙ c.in_default-room.is) in
     record { pair = paired p; settings = y; bytes_fit = fit.0; u64s_fit = fit.1 }
-
-pub shape_of-dst : goal.shape_of-dst
-shape_of-dst c = c.read_picture.auto.dst
-
-pub shape_of-bytes : goal.shape_of-bytes
-shape_of-bytes c = c.read_picture.auto.bytes
-
-pub shape_of-u64s : goal.shape_of-u64s
-shape_of-u64s c = c.read_picture.auto.u64s
 
 pub returns : goal.returns
 returns c =

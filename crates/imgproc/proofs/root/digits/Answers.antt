@@ -1,10 +1,10 @@
 use mathlib.Core.Path.{◌≡◌, ap, ◌∙◌}
-use mathlib.Core.Logic.{⊎_elim}
 use Prim.Native.Nat.{ℕ, ◌*◌, ◌^◌, ◌≤◌, ◌<◌}
 use native.Mathlib.Omega.{arith}
 use lib.Pow.{pow_mono}
 use Rattle.imgproc.proofs.root.Step.{turn_up, turn_same, last}
 use Rattle.imgproc.proofs.root.digits.Goals as goal
+use Rattle.imgproc.proofs.root.digits.Goals.{then-trial-next, else-trial-next}
 
 small : (r i : ℕ) → r < 2 ^ i → i ≤ 54 → r < 18014398509481984
 small r i h k = let p : 2 ^ i ≤ 2 ^ 54 = pow_mono k in omega arith
@@ -34,10 +34,10 @@ pub loop-i-preserved : goal.loop-i-preserved
 loop-i-preserved c =
     let l = c.loop-i in
     let m = c.args.m in
-    ⊎_elim
-    (λ w. turn_up m l.a l.root l.rest l.i c.if-trial-next.root c.if-trial-next.rest l.invariant c.loop-i-test.true w.0.taken w.1 w.2)
-    (λ w. turn_same m l.a l.root l.rest l.i c.if-trial-next.root c.if-trial-next.rest l.invariant c.loop-i-test.true w.0.left w.1 w.2)
-    c.if-trial-next.branch
+    elim c.if-trial-next.branch [
+      | then-trial-next w ↦ turn_up m l.a l.root l.rest l.i c.if-trial-next.root c.if-trial-next.rest l.invariant c.loop-i-test.true w.if-trial-next.true w.root-is w.rest-is
+      | else-trial-next w ↦ turn_same m l.a l.root l.rest l.i c.if-trial-next.root c.if-trial-next.rest l.invariant c.loop-i-test.true w.if-trial-next.false w.root-is w.rest-is
+    ]
 
 pub returns : goal.returns
 returns c =

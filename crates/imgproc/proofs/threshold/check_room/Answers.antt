@@ -1,20 +1,13 @@
 -- `check_room` passes the settings' refusal on, and else says whether both tables fit. Assumes nothing.
-use Prim.Native.Nat.{◌<◌}
-use native.Mathlib.Omega.{arith}
 use mathlib.Core.Path.{◌≡◌, sym, ◌∙◌}
 use lib.Dec.{ltb}
 use Rattle.imgproc.specs.declared.ImgProcError.TheVariants.{WorkspaceTooSmall}
 use Rattle.imgproc.specs.declared.Check.TheVariants.{Accepted}
 use Rattle.imgproc.specs.Refusals.{Conditions, first, refused_if, sauvola_settings, table_entries}
 use Rattle.imgproc.specs.RefusalLaws.{then_refused, then_accepted}
-use Rattle.imgproc.specs.SauvolaLaws.{entries_small}
 use Rattle.imgproc.proofs.morphology.Ways.{room_short, room_enough}
 use Rattle.imgproc.proofs.threshold.check_room.Goals as goal
 use Rattle.imgproc.proofs.threshold.check_room.Goals.{In-Accepted, Start}
-
--- the entries of both tables fit
-small : (s : Start) → table_entries s.args.geometry.width s.args.geometry.height < 18446744073709551616
-small s = omega (arith, entries_small s.args.geometry.width s.args.geometry.height s.requires.0 s.requires.1)
 
 -- what is checked after the settings
 abbrev room : Start → Conditions
@@ -28,12 +21,6 @@ pub returns-in_default : goal.returns-in_default
 returns-in_default c =
     c.in_default.is
     ∙ sym (then_refused (sauvola_settings c.args.config) (room (goal.at.returns-in_default c).Start) (sym c.check_settings-check.ensures ∙ c.in_default.is))
-
-pub overflow_mul-geometry : goal.overflow_mul-geometry
-overflow_mul-geometry c = omega (arith, small (goal.at.overflow_mul-geometry c).Start)
-
-pub overflow_mul-geometry-2 : goal.overflow_mul-geometry-2
-overflow_mul-geometry-2 c = omega (arith, small (goal.at.overflow_mul-geometry-2 c).Start)
 
 pub returns-then-room-geometry : goal.returns-then-room-geometry
 returns-then-room-geometry c =

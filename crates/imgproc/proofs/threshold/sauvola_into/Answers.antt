@@ -8,12 +8,11 @@ use Rattle.imgproc.proofs.Answers.{room_here}
 use Rattle.imgproc.proofs.threshold.sauvola_into.Goals as goal
 use Rattle.imgproc.proofs.threshold.sauvola_into.Goals.{Else-g-d-2}
 
--- TURN: no field before.layout.given.0.0; no field before.dst-layout.given.0.0
 pair : (c : Else-g-d-2)
     → let a = c.args in
     Pair (length a.src.now) a.src_geometry (length a.dst.now) a.dst_geometry
-    c.before.layout.given.0.0
-    c.before.dst-layout.given.0.0
+    c.in-Valid.g
+    c.in-Valid-dst_layout.d
 pair c = search pair_of
 
 pub returns-in_default : goal.returns-in_default

@@ -30,9 +30,6 @@ rect_sum-sum-requires c = (sums (goal.at.rect_sum-sum-requires c).After-high-y1)
 pub rect_sum-sum_sq-requires : goal.rect_sum-sum_sq-requires
 rect_sum-sum_sq-requires c = (sums (goal.at.rect_sum-sum_sq-requires c).After-high-y1).square_corners
 
-pub overflow_mul-count : goal.overflow_mul-count
-overflow_mul-count c = omega (arith, (sums (goal.at.overflow_mul-count c).After-high-y1).count_fits)
-
 pub threshold_of-requires : goal.threshold_of-requires
 threshold_of-requires c =
     ((sums (goal.at.threshold_of-requires c).After-high-y1).sane _ _ c.rect_sum-sum.ensures c.rect_sum-sum_sq.ensures, c.requires.0.settings)

@@ -1,7 +1,11 @@
 -- `usable` meets its contract. Assumes nothing.
-use lib.Ieee.{of_bits, neg}
+use lib.Ieee.{of_bits, nan_bits, neg}
 use Rattle.imgproc.proofs.grid.base.Floats.{all, no_range, no_low, no_high}
 use Rattle.imgproc.proofs.grid.base.usable.Goals as goal
+
+pub float_from_bits-infinite : goal.float_from_bits-infinite
+unfolding nan_bits
+float_from_bits-infinite c = tt
 
 pub returns-then-range-infinite : goal.returns-then-range-infinite
 unfolding of_bits neg

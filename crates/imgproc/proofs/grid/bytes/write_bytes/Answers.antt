@@ -1,22 +1,16 @@
 use Prim.Native.Nat.{ℕ, ◌*◌, ◌/◌, ◌%◌, ◌<◌}
 use mathlib.Core.Path.{◌≡◌, sym, ap, ap₂, ◌∙◌, subst}
-use mathlib.Core.List.{List}
 use native.Mathlib.Omega.{arith}
 use Rattle.image.specs.Plane.{tabulate, overwritten}
-use Rattle.imgproc.specs.declared.grid.config.TileThresholdConfig.{TileThresholdConfig}
-use Rattle.imgproc.specs.declared.grid.tiles.TileNumbers.{TileNumbers}
 use Rattle.imgproc.specs.Grid.{tiles_x_of, tiles_y_of}
 use Rattle.imgproc.specs.TileBytes.{byte_by}
-use Rattle.imgproc.specs.Tiles.{Proper, SmallGrid, joined_around}
+use Rattle.imgproc.specs.Tiles.{Proper, SmallGrid}
 use Rattle.image.specs.WriteLaws.{written_none, written_more, length-written}
 use Rattle.imgproc.proofs.grid.tiles.Counts.{total, some, few, column, row}
 use Rattle.imgproc.proofs.grid.tiles.Neighbours.{around_joined, around_proper, small_grid}
+use Rattle.imgproc.proofs.grid.bytes.write_bytes.Invariants.{around}
 use Rattle.imgproc.proofs.grid.bytes.write_bytes.Goals as goal
 use Rattle.imgproc.proofs.grid.bytes.write_bytes.Goals.{After-tiles_along-tiles_y, Start}
-
--- the numbers around tile k, in a grid that counts tx by ty tiles
-abbrev around : TileThresholdConfig → ℕ → List ℕ → ℕ → ℕ → ℕ → TileNumbers
-around g at ws tx ty k = joined_around g.neighborhood_radius tx ty at ws (k % tx) (k / tx)
 
 -- the byte of tile k
 byte : Start → ℕ → ℕ
@@ -46,13 +40,13 @@ overflow_mul-total c = omega (arith, few c.requires.0 c.tiles_along-tiles_x.ensu
 
 pub loop-t-init : goal.loop-t-init
 unfolding byte
-loop-t-init c =  (omega arith, written_none (byte (goal.at.loop-t-init c).Start) c.args.to c.args.bytes.now)
+loop-t-init c = (omega arith, written_none (byte (goal.at.loop-t-init c).Start) c.args.to c.args.bytes.now)
 
 pub nonzero_rem-t : goal.nonzero_rem-t
-nonzero_rem-t c =  some c.requires.0 c.tiles_along-tiles_x.ensures c.tiles_along-tiles_y.ensures
+nonzero_rem-t c = some c.requires.0 c.tiles_along-tiles_x.ensures c.tiles_along-tiles_y.ensures
 
 pub nonzero_div-t : goal.nonzero_div-t
-nonzero_div-t c =  some c.requires.0 c.tiles_along-tiles_x.ensures c.tiles_along-tiles_y.ensures
+nonzero_div-t c = some c.requires.0 c.tiles_along-tiles_x.ensures c.tiles_along-tiles_y.ensures
 
 pub join_around-numbers-requires : goal.join_around-numbers-requires
 join_around-numbers-requires c =

@@ -1,10 +1,18 @@
 -- `write_bytes` meets its contract. The invariant: the bytes of the tiles passed are written. Assumes nothing.
-use Prim.Native.Nat.{◌-◌, ◌≤◌}
+use Prim.Native.Nat.{ℕ, ◌-◌, ◌/◌, ◌%◌, ◌≤◌}
 use mathlib.Core.Path.{◌≡◌}
+use mathlib.Core.List.{List}
 use Rattle.image.specs.Plane.{tabulate, overwritten}
+use Rattle.imgproc.specs.declared.grid.config.TileThresholdConfig.{TileThresholdConfig}
+use Rattle.imgproc.specs.declared.grid.tiles.TileNumbers.{TileNumbers}
 use Rattle.imgproc.specs.Grid.{tiles_x_of, tiles_y_of}
 use Rattle.imgproc.specs.TileBytes.{byte_by}
+use Rattle.imgproc.specs.Tiles.{joined_around}
 use Rattle.imgproc.proofs.grid.bytes.write_bytes.Given as goal
+
+-- the numbers around tile k, in a grid that counts tx by ty tiles
+abbrev pub around : TileThresholdConfig → ℕ → List ℕ → ℕ → ℕ → ℕ → TileNumbers
+around g at ws tx ty k = joined_around g.neighborhood_radius tx ty at ws (k % tx) (k / tx)
 
 abbrev pub invariant-loop-t : goal.invariant-loop-t
 invariant-loop-t l =

@@ -18,11 +18,13 @@ checked c =
     c.check_query-check.ensures ∙ ap (λ (b : Bool). first (query_conditions a.grid a.len b)) c.holds_pixel.ensures
 
 -- the query was accepted
--- TURN: a helper hands on After-check_query-check
 accepted : (c : In_default)
     → let a = c.args in
     Asked a.grid a.len (ltb a.x a.grid.width && ltb a.y a.grid.height)
-accepted c = asked _ _ _ (sym (checked c.After-check_query-check) ∙ c.in_default.is)
+accepted c =
+    let a = c.args in
+    let checked = c.check_query-check.ensures ∙ ap (λ (b : Bool). first (query_conditions a.grid a.len b)) c.holds_pixel.ensures in
+    asked _ _ _ (sym checked ∙ c.in_default.is)
 
 pub returns-in-Refused : goal.returns-in-Refused
 returns-in-Refused c = place_refused _ (checked (goal.at.returns-in-Refused c).After-check_query-check) c.in-Refused.is

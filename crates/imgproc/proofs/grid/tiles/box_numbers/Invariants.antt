@@ -7,7 +7,7 @@ use Rattle.imgproc.proofs.grid.tiles.box_numbers.Given as goal
 
 abbrev pub invariant-loop-y : goal.invariant-loop-y
 invariant-loop-y l =
-    (l.top < l.y) × (l.y ≤ l.bottom) × (l.numbers ≡ numbers_in (pixel l.src l.geometry.stride) (record { l.left = l.left; l.right = l.right - 1; l.top = l.top; l.bottom = l.y - 1 }))
+    (l.top < l.y) × (l.y ≤ l.bottom) × (l.numbers ≡ numbers_in (pixel l.src l.geometry.stride) (record { left = l.left; right = l.right - 1; top = l.top; bottom = l.y - 1 }))
 
 abbrev pub decreases-loop-y : goal.decreases-loop-y
 decreases-loop-y l = l.bottom - l.y

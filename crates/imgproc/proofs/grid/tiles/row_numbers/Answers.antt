@@ -1,23 +1,16 @@
-use Prim.Native.Nat.{ℕ, ◌*◌, ◌≤◌, ◌<◌}
+use Prim.Native.Nat.{ℕ, ◌-◌, ◌*◌, ◌≤◌, ◌<◌}
 use native.Mathlib.Nat.{mul-le-mul}
 use native.Mathlib.Omega.{arith}
+use mathlib.Core.List.{List}
 use lib.ListN.{get_or}
-use Rattle.image.specs.Layout.{side_limit}
-use Rattle.imgproc.proofs.grid.tiles.Numbers.{scanned_none, scanned_more, scanned_all, sum_small, sum_sq_small}
+use Rattle.imgproc.proofs.grid.tiles.Numbers.{Scanned, scanned_none, scanned_more, scanned_all, sum_small, sum_sq_small}
 use Rattle.imgproc.proofs.grid.tiles.row_numbers.Goals as goal
-use Rattle.imgproc.proofs.grid.tiles.row_numbers.Goals.{After-max_of-maximum, After-shared_slice_known-1}
 
--- every sample is a byte
-bytes : (c : After-shared_slice_known-1) (k : ℕ) → get_or c.args.row.now k 0 < 256
-bytes c k = omega (arith, c.type_inv.row k)
-
--- the sample at hand, and the sums before it
--- TURN: a helper hands on After-shared_slice_known-1; a helper hands on After-shared_slice_known-1
-here : (c : After-max_of-maximum)
-    → (c.loop-x.sum ≤ 255 * side_limit) × (c.loop-x.sum_sq ≤ 65025 * side_limit)
-here c =
-    let l = c.loop-x in
-    (omega (arith, sum_small l.invariant.2 l.invariant.0 (bytes c.After-shared_slice_known-1)), omega (arith, sum_sq_small l.invariant.2 l.invariant.0 (bytes c.After-shared_slice_known-1)))
+-- the sums of the samples passed
+module _ (row : List ℕ) (inv : (k : ℕ) → get_or row k 0 < 256) {left x mn mx s q : ℕ}
+    (seen : Scanned (λ k. get_or row k 0) left x mn mx s q) (from : left ≤ x) where
+  sums : (s ≤ (x - left) * 255) × (q ≤ (x - left) * 65025)
+  sums = (sum_small seen from inv, sum_sq_small seen from inv)
 
 square : (v : ℕ) → v < 256 → v * v ≤ 65025
 square v t = let a : v ≤ 255 = omega arith in mul-le-mul a a
@@ -26,13 +19,17 @@ pub loop-x-init : goal.loop-x-init
 loop-x-init c = (omega arith, omega arith, scanned_none _ _)
 
 pub overflow_add-sum : goal.overflow_add-sum
-overflow_add-sum c = omega (arith, here (goal.at.overflow_add-sum c).After-max_of-maximum, c.type_inv.row c.loop-x.x)
+overflow_add-sum c =
+    let l = c.loop-x in
+    omega (arith, sums c.args.row.now (λ k. omega (arith, c.type_inv.row k)) l.invariant.2 l.invariant.0, c.type_inv.row l.x)
 
 pub overflow_mul-sum_sq : goal.overflow_mul-sum_sq
-overflow_mul-sum_sq c = omega (arith, square _ (bytes (goal.at.overflow_mul-sum_sq c).After-shared_slice_known-1 c.loop-x.x))
+overflow_mul-sum_sq c = omega (arith, square (get_or c.args.row.now c.loop-x.x 0) (omega (arith, c.type_inv.row c.loop-x.x)))
 
 pub overflow_add-sum_sq : goal.overflow_add-sum_sq
-overflow_add-sum_sq c = omega (arith, here (goal.at.overflow_add-sum_sq c).After-max_of-maximum, square _ (bytes (goal.at.overflow_add-sum_sq c).After-shared_slice_known-1 c.loop-x.x))
+overflow_add-sum_sq c =
+    let l = c.loop-x in
+    omega (arith, sums c.args.row.now (λ k. omega (arith, c.type_inv.row k)) l.invariant.2 l.invariant.0, square (get_or c.args.row.now l.x 0) (omega (arith, c.type_inv.row l.x)))
 
 pub loop-x-preserved : goal.loop-x-preserved
 loop-x-preserved c =
@@ -40,13 +37,15 @@ loop-x-preserved c =
     (omega arith, omega arith, scanned_more l.invariant.2 l.invariant.0 c.min_of-minimum.ensures c.max_of-maximum.ensures)
 
 pub overflow_cast-result : goal.overflow_cast-result
-overflow_cast-result c = let l = c.loop-x in omega (arith, sum_small l.invariant.2 l.invariant.0 (bytes (goal.at.overflow_cast-result c).After-shared_slice_known-1))
+overflow_cast-result c =
+    let l = c.loop-x in omega (arith, sums c.args.row.now (λ k. omega (arith, c.type_inv.row k)) l.invariant.2 l.invariant.0)
 
 pub overflow_cast-result-2 : goal.overflow_cast-result-2
-overflow_cast-result-2 c = let l = c.loop-x in omega (arith, sum_sq_small l.invariant.2 l.invariant.0 (bytes (goal.at.overflow_cast-result-2 c).After-shared_slice_known-1))
+overflow_cast-result-2 c =
+    let l = c.loop-x in omega (arith, sums c.args.row.now (λ k. omega (arith, c.type_inv.row k)) l.invariant.2 l.invariant.0)
 
 pub returns : goal.returns
 returns c =
     let l = c.loop-x in
-    scanned_all l.invariant.2 l.invariant.0 (bytes (goal.at.returns c).After-shared_slice_known-1)
+    scanned_all l.invariant.2 l.invariant.0 (λ k. omega (arith, c.type_inv.row k))
     c.args.right c.loop-x-test.false l.invariant.1 (omega (arith, c.requires))

@@ -34,11 +34,9 @@ pub loop-y-smaller : goal.loop-y-smaller
 loop-y-smaller c =
     omega arith
 
--- TURN: no field before.before.before.before
 pub loop-y-preserved : goal.loop-y-preserved
 loop-y-preserved c =
-    let at = c.before.before.before.before in
-    sweeping_more at.before.before.requires _ at.loop.inv (omega arith) c.sweep_strip-t.ensures
+    sweeping_more c.requires _ c.loop-y.invariant (omega arith) c.sweep_strip-t.ensures
 
 pub shape_of-ws : goal.shape_of-ws
 shape_of-ws c = c.loop-y.invariant.kept.long

@@ -1,7 +1,7 @@
 use Prim.Native.Nat.{◌+◌, ◌-◌, ◌*◌, ◌%◌, ◌≤◌}
 use mathlib.Core.Path.{◌≡◌, sym, ◌∙◌}
 use mathlib.Core.Bool.{true}
-use mathlib.Core.Logic.{inl, inr, ⊎_elim}
+use mathlib.Core.Logic.{inl, inr}
 use native.Mathlib.Omega.{arith}
 use borrow.Author.Tests.{eqb-true, eqb-false, ne_eqb}
 use Rattle.imgproc.specs.Reach.{backward_at}
@@ -9,7 +9,7 @@ use Rattle.imgproc.proofs.morphology.sweeps.Blocks.{order}
 use Rattle.imgproc.proofs.morphology.Lanes.{apart_within, line_order, up_none, up_room, up_fits, up_all}
 use Rattle.imgproc.proofs.morphology.sweeps.Passes.{backward_copy, backward_meet, back_apart}
 use Rattle.imgproc.proofs.morphology.sweeps.backward_pass.Goals as goal
-use Rattle.imgproc.proofs.morphology.sweeps.backward_pass.Goals.{Else-y-height, In-loop-y}
+use Rattle.imgproc.proofs.morphology.sweeps.backward_pass.Goals.{Else-y-height, In-loop-y, then-y-kernel, else-y-kernel}
 
 pub overflow_mul-to : goal.overflow_mul-to
 overflow_mul-to c = omega (arith, c.requires.source)
@@ -47,7 +47,10 @@ loop-y-preserved-then-y-height c =
     backward_copy (order c.args.least) _ c.requires.kernel _ _ _ _ (back_apart c.requires) _ _
     c.loop-y.invariant
     c.loop-y-test.true
-    (⊎_elim (λ w. inl w.0.taken) (λ w. inr (eqb-true _ _ (sym w.1 ∙ c.if-y-height.true))) c.if-y-kernel.branch)
+    (elim c.if-y-kernel.branch [
+      | then-y-kernel w ↦ inl w.if-y-kernel.true
+      | else-y-kernel w ↦ inr (eqb-true _ _ (sym w.value-is ∙ c.if-y-height.true))
+    ])
     c.copy_lanes.ensures
 
 -- past both halves of the test
@@ -56,10 +59,10 @@ neither : (c : Else-y-height)
     let y = c.loop-y.y in
     ((y - 1) % a.kernel ≡ a.kernel - 1 → ⊥) × (y - 1 ≡ a.planes.height - 1 → ⊥)
 neither c =
-    ⊎_elim
-    (λ w. absurd (eqb-false _ _ (sym w.1 ∙ c.if-y-height.false) w.0.taken))
-    (λ w. (w.0.left, eqb-false _ _ (sym w.1 ∙ c.if-y-height.false)))
-    c.if-y-kernel.branch
+    elim c.if-y-kernel.branch [
+      | then-y-kernel w ↦ absurd (eqb-false _ _ (sym w.value-is ∙ c.if-y-height.false) w.if-y-kernel.true)
+      | else-y-kernel w ↦ (w.if-y-kernel.false, eqb-false _ _ (sym w.value-is ∙ c.if-y-height.false))
+    ]
 
 -- and then there is a line below
 under : (c : Else-y-height)

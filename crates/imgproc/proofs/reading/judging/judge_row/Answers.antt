@@ -1,9 +1,9 @@
 use native.Mathlib.Omega.{arith}
-use Prim.Native.Nat.{ℕ, ◌<◌}
-use mathlib.Core.Path.{◌≡◌, refl, sym, ◌∙◌, subst}
+use Prim.Native.Nat.{◌<◌}
+use mathlib.Core.Path.{refl, sym, ◌∙◌}
 use lib.ListN.{length, length-set}
 use Rattle.imgproc.specs.declared.reading.judging.Judgement.TheVariants.{Dark, Light, Skipped}
-use Rattle.imgproc.specs.ReadingSteps.{Room, PixelsJudged}
+use Rattle.imgproc.specs.ReadingSteps.{Room}
 use Rattle.imgproc.proofs.reading.judging.Judgements.{none_judged, next_judged, room_for_one}
 use Rattle.imgproc.proofs.reading.judging.judge_row.Goals as goal
 use Rattle.imgproc.proofs.reading.judging.judge_row.Goals.{In-loop-next}
@@ -22,65 +22,29 @@ room : (c : In-loop-next) → Room c.loop-next.counts 1
 room c =
     room_for_one c.loop-next-test.true c.loop-next.invariant.1 c.requires.row.1.1
 
-pub overflow_add-next : goal.overflow_add-next
-overflow_add-next c =  omega (arith, c.loop-next-test.true, c.requires.ready.tables.layout.small_width)
-
-pub judge-judgement-requires : goal.judge-judgement-requires
-judge-judgement-requires c =  (c.requires.ready, (c.loop-next-test.true, c.requires.row.0))
-
 pub overflow_add-counts : goal.overflow_add-counts
 overflow_add-counts c = record { fits = (room (goal.at.overflow_add-counts c).In-loop-next).dark }
 
-pub bounds-out-x : goal.bounds-out-x
-bounds-out-x c = inside (goal.at.bounds-out-x c).In-loop-next
-
-pub loop-next-smaller-in-Dark : goal.loop-next-smaller-in-Dark
-loop-next-smaller-in-Dark c =  omega (arith, c.loop-next-test.true)
-
 pub loop-next-preserved-in-Dark : goal.loop-next-preserved-in-Dark
-loop-next-preserved-in-Dark c =
-    (
-      (omega (arith, c.loop-next-test.true), length-set c.loop-next.out c.loop-next.next _ ∙ c.loop-next.invariant.0.1),
-      next_judged Dark c.loop-next.invariant.1 (inside (goal.at.loop-next-preserved-in-Dark c).In-loop-next) (sym c.in-Dark.is ∙ c.judge-judgement.ensures) (omega arith) (omega arith) (omega arith),
-    )
+loop-next-preserved-in-Dark c = (
+  (omega (arith, c.loop-next-test.true), length-set c.loop-next.out c.loop-next.next _ ∙ c.loop-next.invariant.0.1),
+  next_judged Dark c.loop-next.invariant.1 (inside (goal.at.loop-next-preserved-in-Dark c).In-loop-next) (sym c.in-Dark.is ∙ c.judge-judgement.ensures) (omega arith) (omega arith) (omega arith),
+)
 
 pub overflow_add-counts-in-Light : goal.overflow_add-counts-in-Light
 overflow_add-counts-in-Light c = record { fits = (room (goal.at.overflow_add-counts-in-Light c).In-loop-next).light }
 
-pub bounds-out-x-in-Light : goal.bounds-out-x-in-Light
-bounds-out-x-in-Light c = inside (goal.at.bounds-out-x-in-Light c).In-loop-next
-
-pub loop-next-smaller-in-Light : goal.loop-next-smaller-in-Light
-loop-next-smaller-in-Light c =  omega (arith, c.loop-next-test.true)
-
 pub loop-next-preserved-in-Light : goal.loop-next-preserved-in-Light
-loop-next-preserved-in-Light c =
-    (
-      (omega (arith, c.loop-next-test.true), length-set c.loop-next.out c.loop-next.next _ ∙ c.loop-next.invariant.0.1),
-      next_judged Light c.loop-next.invariant.1 (inside (goal.at.loop-next-preserved-in-Light c).In-loop-next) (sym c.in-Light.is ∙ c.judge-judgement.ensures) (omega arith) (omega arith) (omega arith),
-    )
+loop-next-preserved-in-Light c = (
+  (omega (arith, c.loop-next-test.true), length-set c.loop-next.out c.loop-next.next _ ∙ c.loop-next.invariant.0.1),
+  next_judged Light c.loop-next.invariant.1 (inside (goal.at.loop-next-preserved-in-Light c).In-loop-next) (sym c.in-Light.is ∙ c.judge-judgement.ensures) (omega arith) (omega arith) (omega arith),
+)
 
 pub overflow_add-counts-in-Skipped : goal.overflow_add-counts-in-Skipped
 overflow_add-counts-in-Skipped c = record { fits = (room (goal.at.overflow_add-counts-in-Skipped c).In-loop-next).skipped }
 
-pub bounds-out-x-in-Skipped : goal.bounds-out-x-in-Skipped
-bounds-out-x-in-Skipped c = inside (goal.at.bounds-out-x-in-Skipped c).In-loop-next
-
-pub loop-next-smaller : goal.loop-next-smaller
-loop-next-smaller c =  omega (arith, c.loop-next-test.true)
-
 pub loop-next-preserved : goal.loop-next-preserved
-loop-next-preserved c =
-    (
-      (omega (arith, c.loop-next-test.true), length-set c.loop-next.out c.loop-next.next _ ∙ c.loop-next.invariant.0.1),
-      next_judged Skipped c.loop-next.invariant.1 (inside (goal.at.loop-next-preserved c).In-loop-next) (sym c.in-Skipped.is ∙ c.judge-judgement.ensures) (omega arith) (omega arith) (omega arith),
-    )
-
-pub shape_of-out : goal.shape_of-out
-shape_of-out c = c.loop-next.invariant.0.1
-
-pub returns : goal.returns
-returns c =
-    let a = c.args in
-    let e : c.loop-next.next ≡ a.packed.width = omega (arith, c.loop-next-test.false, c.loop-next.invariant.0.0) in
-    subst (λ (n : ℕ). PixelsJudged a.judged a.config a.packed a.opened.now a.y n c.loop-next.counts c.loop-next.out) e c.loop-next.invariant.1
+loop-next-preserved c = (
+  (omega (arith, c.loop-next-test.true), length-set c.loop-next.out c.loop-next.next _ ∙ c.loop-next.invariant.0.1),
+  next_judged Skipped c.loop-next.invariant.1 (inside (goal.at.loop-next-preserved c).In-loop-next) (sym c.in-Skipped.is ∙ c.judge-judgement.ensures) (omega arith) (omega arith) (omega arith),
+)

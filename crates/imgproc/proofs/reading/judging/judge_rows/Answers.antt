@@ -1,13 +1,12 @@
 use Prim.Native.Nat.{ℕ, ◌+◌, ◌*◌, ◌≤◌, ◌<◌}
 use native.Mathlib.Omega.{arith}
-use mathlib.Core.Path.{◌≡◌, refl, sym, ◌∙◌, subst}
+use mathlib.Core.Path.{refl, sym, ◌∙◌}
 use mathlib.Core.List.{List}
 use lib.ListN.{length}
 use Rattle.image.specs.LayoutLaws.{area_small}
 use Rattle.imgproc.specs.ReadingSteps.{marked_over}
-use Rattle.image.specs.Views.{painted_sides}
-use Rattle.image.specs.PaintRows.{rows_start, rows_same, rows_done, row_fits, part_long, rows_next, row_within_as}
-use Rattle.imgproc.proofs.reading.judging.Judgements.{RowsCounted, none_counted, next_counted, room_for_row, marked_pixel}
+use Rattle.image.specs.PaintRows.{rows_start, part_long, rows_next, row_within_as}
+use Rattle.imgproc.proofs.reading.judging.Judgements.{none_counted, next_counted, room_for_row, marked_pixel}
 use Rattle.imgproc.proofs.reading.judging.judge_rows.Goals as goal
 use Rattle.imgproc.proofs.reading.judging.judge_rows.Goals.{In-loop-y, Start}
 
@@ -23,46 +22,21 @@ within : (t : In-loop-y)
     → let a = t.args in t.loop-y.y * a.dst_geometry.stride + a.packed.width ≤ length a.dst.now
 within t = row_within_as t.requires.destination.0 t.requires.destination.1.0 t.requires.destination.1.1 t.loop-y.y t.loop-y-test.true
 
--- TURN: a helper hands on Start; a helper hands on Start; a helper hands on Start
-fits : (t : In-loop-y)
-    → let a = t.args in t.loop-y.y * a.dst_geometry.stride + a.packed.width ≤ length t.loop-y.dst
-fits t =
-    let l = t.loop-y in
-    row_fits (new t.Start) _ _ _ t.args.dst.now l.y l.invariant.0 (wide t.Start).0 (wide t.Start).1 (within t)
-
 pub loop-y-init : goal.loop-y-init
 loop-y-init c =
     (rows_start (new (goal.at.loop-y-init c).Start) _ _ _ _, none_counted (wide (goal.at.loop-y-init c).Start).0 refl refl refl)
 
-pub overflow_mul-from : goal.overflow_mul-from
-overflow_mul-from c = omega (arith, within (goal.at.overflow_mul-from c).In-loop-y)
-
-pub overflow_add-to : goal.overflow_add-to
-overflow_add-to c = omega (arith, within (goal.at.overflow_add-to c).In-loop-y)
-
-pub slice_bounds-judge_row-end : goal.slice_bounds-judge_row-end
-slice_bounds-judge_row-end c = fits (goal.at.slice_bounds-judge_row-end c).In-loop-y
-
-pub judge_row-counts-requires : goal.judge_row-counts-requires
-judge_row-counts-requires c =
+pub judge_row-counts-requires-clause-row : goal.judge_row-counts-requires-clause-row
+judge_row-counts-requires-clause-row c =
     let l = c.loop-y in
-    let a = c.args in (
-      c.requires.ready,
+    let s = (goal.at.judge_row-counts-requires-clause-row c).Start in
+    let t = (goal.at.judge_row-counts-requires-clause-row c).In-loop-y in (
+      c.loop-y-test.true,
       (
-        c.loop-y-test.true,
-        (
-          part_long (new (goal.at.judge_row-counts-requires c).Start) _ _ _ a.dst.now l.y l.invariant.0 (wide (goal.at.judge_row-counts-requires c).Start).0 (wide (goal.at.judge_row-counts-requires c).Start).1 (within (goal.at.judge_row-counts-requires c).In-loop-y),
-          room_for_row (wide (goal.at.judge_row-counts-requires c).Start).0 l.invariant.1 c.loop-y-test.true (area_small c.requires.ready.tables.layout),
-        ),
+        part_long (new s) _ _ _ c.args.dst.now l.y l.invariant.0 (wide s).0 (wide s).1 (within t),
+        room_for_row (wide s).0 l.invariant.1 c.loop-y-test.true (area_small c.requires.ready.tables.layout),
       ),
     )
-
-pub overflow_add-y : goal.overflow_add-y
-overflow_add-y c =
-    omega (arith, c.loop-y-test.true, c.requires.ready.tables.layout.small_height)
-
-pub loop-y-smaller : goal.loop-y-smaller
-loop-y-smaller c =  omega (arith, c.loop-y-test.true)
 
 pub loop-y-preserved : goal.loop-y-preserved
 loop-y-preserved c =
@@ -76,22 +50,3 @@ loop-y-preserved c =
           c.loop-y-test.true,
       next_counted (wide (goal.at.loop-y-preserved c).Start).0 l.invariant.1 c.judge_row-counts.ensures,
     )
-
-pub shape_of-dst : goal.shape_of-dst
-shape_of-dst c =
-    let l = c.loop-y in rows_same (new (goal.at.shape_of-dst c).Start) _ _ _ c.args.dst.now l.y l.invariant.0
-
-pub returns : goal.returns
-returns c =
-    let l = c.loop-y in
-    let a = c.args in
-    let e : l.y ≡ a.packed.height = omega (arith, c.loop-y-test.false, l.invariant.0.upto) in
-    let r = subst (λ (n : ℕ). RowsCounted a.config a.packed a.opened.now l.counts n) e l.invariant.1 in
-    record {
-      leaves =
-          rows_done (new (goal.at.returns c).Start) _ _ _ a.dst.now l.y l.invariant.0 c.loop-y-test.false
-          ∙ painted_sides a.dst.now a.dst_geometry (new (goal.at.returns c).Start) c.requires.destination.1.0 c.requires.destination.1.1;
-      dark = r.dark;
-      light = r.light;
-      skipped = r.skipped;
-    }
