@@ -66,9 +66,9 @@ def edited(crates, crate, changes):
 
 
 def make_base(work):
-    """Copies the crates as they stand, without what was made of them, and returns the copy."""
+    """Copies the crates as they stand and returns the copy. What an earlier check made there stays: rt tells what of it is out of
+    date."""
     base = os.path.join(work, 'base')
-    shutil.rmtree(base, ignore_errors=True)
     for crate in listed():
         for part in PARTS:
             copy(os.path.join(ROOT, 'crates', crate, part), os.path.join(base, 'crates', crate, part))
