@@ -217,7 +217,7 @@ class Module:
         if isinstance(parts[0], list):
             if parts[0][0] != 'function' or len(parts) != 2:
                 raise Unknown(f'an application of {show(parts[0])[:60]}')
-            return [*parts[0], parts[1]]
+            return [*parts[0], parts[1]], at
         return self.applied(parts), at
 
     def applied(self, parts):

@@ -232,8 +232,11 @@ class Reported(Ways):
             if s[0] == 'call':
                 set_by.setdefault(int(s[3][1]), set()).add(callee(s))
             if s[0] == 'assign':
-                set_by.setdefault(int(s[1][1]), set()).add('assigned')
-        self.numbers = {n for n, by in set_by.items() if by == {NUMBER}}
+                moved = s[2][1] if s[2][0] == 'rv_opd' and head(s[2][1]) == 'copy' else None
+                part = moved is not None and code.carries(function.types[int(moved[1][1])])
+                set_by.setdefault(int(s[1][1]), set()).add('part' if part else 'assigned')
+        # the locals that hold nothing but a part of an answer, or the number of its tally
+        self.parts = {n for n, by in set_by.items() if by <= {NUMBER, 'part'}}
         super().__init__(code, function)
 
     def begin(self):
@@ -244,7 +247,7 @@ class Reported(Ways):
 
     def of_the_answer(self, operand):
         n = int(operand[1][1]) if head(operand) == 'copy' else None
-        return n is not None and (n in self.numbers or self.code.carries(self.function.types[n]))
+        return n is not None and (n in self.parts or self.code.carries(self.function.types[n]))
 
     def assign(self, place, value, state):
         stores = any(step[0] == 'deref' for step in items(place[2]))
