@@ -27,8 +27,9 @@ pub returns : goal.returns
 unfolding first sauvola_settings
 returns c =
     let a = c.args in
+    let low = c.if-config-gt1000.false in
     simp (
       ne_eqb a.config.radius 0 c.if-config-eq0.false,
-      le-ltb 1000 a.config.k_milli c.if-config-gt1000.false,
+      le-ltb 1000 a.config.k_milli low,
       ne_eqb a.config.dynamic_range 0 c.if-config-eq0-2.false,
     )
