@@ -6,13 +6,28 @@ import shutil
 import subprocess
 
 ROOT = os.path.dirname(os.path.dirname(os.path.abspath(__file__)))
-JOBS = int(os.environ.get('FRAUDS_JOBS') or len(os.sched_getaffinity(0)))
 PARTS = ('src', 'specs', 'proofs')
+
+
+def at_once():
+    """Returns how many checks to run side by side: one a processor, or fewer where the group's quota or the free memory says so. A check
+    of imgproc takes some 1 GB."""
+    found = len(os.sched_getaffinity(0))
+    quota = re.match(r'(\d+) (\d+)', read('/sys/fs/cgroup/cpu.max')) if os.path.isfile('/sys/fs/cgroup/cpu.max') else None
+    free = re.search(r'MemAvailable:\s+(\d+)', read('/proc/meminfo'))
+    if quota:
+        found = min(found, int(quota[1]) // int(quota[2]))
+    if free:
+        found = min(found, int(free[1]) // 2_000_000)
+    return max(found, 1)
 
 
 def read(path):
     with open(path, encoding='utf-8', errors='replace') as file:
         return file.read()
+
+
+JOBS = int(os.environ.get('FRAUDS_JOBS') or at_once())
 
 
 def write(path, text):
@@ -29,9 +44,11 @@ def copy(old, new):
     one."""
     def one(source, target):
         if source.endswith('.oantt') or '/out/rlib/' in source:
-            os.link(source, target)
-        else:
-            shutil.copy2(source, target)
+            try:
+                return os.link(source, target)
+            except OSError:
+                pass  # a file system without links
+        return shutil.copy2(source, target)
     shutil.rmtree(new, ignore_errors=True)
     if os.path.isdir(old):
         shutil.copytree(old, new, copy_function=one)
