@@ -44,8 +44,8 @@ class Edit:
 
 
 def pieces(text):
-    """Returns the text of each function of a file by its name, and what stands outside of the functions. Comments and layout do not
-    count."""
+    """Returns the text of each function of a file by its name, a method's after that of its type, and what stands outside of the
+    functions. Comments and layout do not count."""
     text = re.sub(r'//[^\n]*', '', text)
     outside, found, at = '', {}, 0
     for head in re.finditer(r'(?:\bpub(?:\(\w+\))?\s+)?(?:\bextern "C" )?\bfn (\w+)', text):
@@ -62,7 +62,10 @@ def pieces(text):
             if (mark == '}' and level == 0 and is_body) or (mark == ';' and level == 0):
                 break
         outside += text[at:head.start()]
-        found[head[1]] = found.get(head[1], '') + ' '.join(text[head.start():end].split())
+        inside = outside.count('{') > outside.count('}')
+        owner = re.findall(r'\bimpl(?:<[^>]*>)?\s+(?:[^{]*\sfor\s+)?(\w+)', outside)[-1:] if inside else []
+        name = '::'.join([*owner, head[1]])
+        found[name] = found.get(name, '') + ' '.join(text[head.start():end].split())
         at = end
     return found, ' '.join((outside + text[at:]).split())
 

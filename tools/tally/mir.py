@@ -9,7 +9,7 @@ from dataclasses import dataclass
 
 STATEMENTS = {'skip', 'return', 'seq', 'assign', 'call', 'cond', 'switch', 'block', 'loop', 'exit', 'unreachable'}
 VALUES = {'rv_opd', 'op1', 'op2', 'aggregate', 'repeat', 'addr_of'}
-OPERANDS = {'copy', 'int', 'int_neg', 'int_big', 'float', 'opd_true', 'opd_false', 'opd_unit'}
+OPERANDS = {'copy', 'int', 'int_neg', 'int_big', 'float', 'opd_true', 'opd_false', 'opd_unit', 'num_of'}
 STEPS = {'field', 'variant', 'deref'}
 
 BYTE = ['ty_int', 'w8']
@@ -264,8 +264,8 @@ class Module:
         path = self.aliases.get(alias)
         if path in SYNTAX:
             return rest
-        # a function by its own module of symbols
-        found = re.fullmatch(r'Rattle\.(\w+)\.proofs\.(.*)\.Symbol', path or '')
+        # a function by its own module of symbols; one of a crate that std is made of stands below std
+        found = re.fullmatch(r'Rattle\.(?:std\.below\.)?(\w+)\.proofs\.(.*)\.Symbol', path or '')
         if found and rest in ('name', 'symbol'):
             name = '::'.join([found[1], *found[2].replace('+', '').split('.')])
             return ['function', name] if rest == 'name' else name

@@ -44,7 +44,8 @@ def place(name, root):
     """Returns the file and line of a function, as far as its name tells."""
     crate, *path = name.split('::')
     source = root / 'crates' / crate / 'src'
-    for file in (source / f'{"/".join(path[:-1])}.rt', source / f'{path[0]}.rt', source / 'lib.rt', source / 'main.rt'):
+    folders = ['/'.join(path[:-1]), '/'.join(path[:-2]), path[0], 'lib', 'main']  # the second is a method's
+    for file in (source / f'{folder}.rt' for folder in folders):
         lines = file.read_text().split('\n') if file.is_file() else []
         for number, line in enumerate(lines, 1):
             if re.search(rf'\bfn {re.escape(path[-1])}\b', line):

@@ -3,8 +3,8 @@ from mir import BYTE, Unknown, callee, calls, head
 
 MODULE = 'imgproc::morphology::tally::'
 TALLY, MET = MODULE + 'Tally', MODULE + 'Met'
-START, LESSER, GREATER, COUNTED, CHOSEN, NUMBER = (
-    MODULE + name for name in ('start', 'lesser', 'greater', 'counted', 'chosen', 'comparisons')
+START, EXTREME, COUNTED, CHOSEN, NUMBER = (
+    MODULE + name for name in ('start', 'Tally::extreme', 'Met::counted', 'Met::chosen', 'comparisons')
 )
 # Parts 3, 5 and 6 of document 01 use samples by rules of their own, after a sweep. Each of these functions has one caller.
 OTHER_PARTS = {
@@ -12,8 +12,14 @@ OTHER_PARTS = {
     'imgproc::reading::mark_tiles': 'imgproc::reading::read_picture',
     'imgproc::reading::judging::judge_picture': 'imgproc::reading::read_picture',
 }
-# LINE writes the program's line, and REFUSALS report a refusal. A function that holds an answer may call these alone.
-LINE, REFUSALS = 'pgm::counts_line', ('imgproc::number', 'pgm::refused_line')
+# LINE writes the program's line of the numbers in a COUNTS, and REFUSALS report a refusal. A function that holds an answer may call
+# these alone. What they return, the length of the line, may be taken out of its Some by LENGTH.
+COUNTS, LINE, REFUSALS = 'pgm::Counts', 'pgm::Counts::line', ('imgproc::ImgProcErrorRefusal::number', 'pgm::refused_line')
+LENGTH = 'std::option::Option::unwrap'
+# `?` takes an answer apart by the first of these, and makes an answer of a refusal, which holds no tally, by the second.
+TAKEN_APART, PASSED_ON = 'branch', 'from_residual'
+# std's copies within a slice and from one to another move samples and compute with none.
+MOVING = ('copy_from_slice', 'copy_within')
 # The crates that report a number.
 REPORTING = ('answer', 'imgproc_c')
 
@@ -22,11 +28,10 @@ class Code:
     def __init__(self, program):
         self.program, self.functions = program, program.functions
         self.called = {f.name: [callee(c) for c in calls(f.body)] for f in self.functions.values()}
-        self.expect(START, LESSER, GREATER, COUNTED, CHOSEN, NUMBER, *OTHER_PARTS, *OTHER_PARTS.values())
-        self.sweeping = self.reaching({LESSER, GREATER})
+        self.expect(START, EXTREME, COUNTED, CHOSEN, NUMBER, *OTHER_PARTS, *OTHER_PARTS.values())
+        self.sweeping = self.reaching({EXTREME})
         self.library = [f for f in self.of('imgproc') if not f.name.startswith(MODULE)]
         self.above = [f for crate in REPORTING for f in self.of(crate)]
-        self.meeting = next(iter(self.callers(LESSER)), None)  # the function that calls the extremes
 
     def expect(self, *names):
         """Raises Unknown if a function is missing: a rule that finds nothing to look at must not pass."""

@@ -2,46 +2,59 @@
 yields each function that breaks the rule, and what that function does."""
 import mir
 from mir import BYTE, callee, calls, head, items, operands, statements, type_arguments
-from program import CHOSEN, COUNTED, GREATER, LESSER, MODULE, NUMBER, OTHER_PARTS, START, Code, short
+from program import CHOSEN, COUNTED, EXTREME, MODULE, MOVING, NUMBER, OTHER_PARTS, PASSED_ON, START, TAKEN_APART, Code, short
 from ways import HandedOn, Reported
 
 
 def an_extreme_compares_once(code):
-    """Only two small functions, the lesser and the greater of two samples, compare samples and raise a tally. Each compares its two
-    samples once and adds once; nothing else makes a tally but the start, and nothing else computes with one."""
-    known = {START: [], LESSER: ['add', 'lt'], GREATER: ['add', 'lt'], COUNTED: [], CHOSEN: [], NUMBER: []}
+    """Only two small functions, the lesser and the greater of two samples, compare samples and raise a tally: they are the two
+    instances of `extreme`. It compares its two samples once, computes nothing else with them, and adds once; nothing else makes a
+    tally but the start, and nothing else computes with one."""
+    # `ne` tells which instance of `extreme` it is
+    known = {START: [], EXTREME: ['add', 'lt', 'ne'], COUNTED: [], CHOSEN: [], NUMBER: []}
     samples = ['(copy (place 2 []))', '(copy (place 3 []))']
     for f in code.functions.values():
         if not f.name.startswith(MODULE):
             continue
         if f.name not in known:
-            yield f.name, 'is not one of the six functions of a tally'
+            yield f.name, f'is not one of the {len(known)} functions of a tally'
             continue
         values = [s[2] for s in statements(f.body) if s[0] == 'assign']
-        done = sorted(head(v[1]) for v in values if v[0] in ('op1', 'op2'))
+        computed = [v for v in values if v[0] in ('op1', 'op2')]
+        done = sorted(head(v[1]) for v in computed)
         if done != known[f.name]:
             yield f.name, f'computes {", ".join(done) or "nothing"} where {", ".join(known[f.name]) or "nothing"} is wanted'
         if any(s[0] in ('call', 'loop', 'switch') for s in statements(f.body)):
             yield f.name, 'calls something or goes round a loop'
-        if any(head(v[1]) == 'lt' and sorted(map(mir.show, v[2:])) != samples for v in values if v[0] == 'op2'):
-            yield f.name, 'compares something else than its two samples'
-        if any(v[0] == 'aggregate' for v in values) and f.name not in (START, LESSER, GREATER):
+        for v in computed:
+            met = any(code.is_sample(f, o) for o in operands(v))
+            if met != (head(v[1]) == 'lt') or met and sorted(mir.show(copied(f, o)) for o in v[2:]) != samples:
+                yield f.name, 'compares something else than its two samples'
+        if any(v[0] == 'aggregate' for v in values) and f.name not in (START, EXTREME):
             yield f.name, 'makes a tally'
 
 
+def copied(f, operand):
+    """Returns what an operand is a copy of: itself if nothing is assigned to it, and otherwise what its one assignment copies."""
+    given = [s[2] for s in statements(f.body) if s[0] == 'assign' and s[1] == operand[1]]
+    if len(given) == 1 and given[0][0] == 'rv_opd' and head(given[0][1]) == 'copy':
+        return copied(f, given[0][1])
+    return ['assigned', operand] if given else operand
+
+
 def the_extremes_are_called_in_one_place(code):
-    """Every extreme of a sweep comes out of the two functions. One function calls them, once each, and gives them samples of the
+    """Every extreme of a sweep comes out of the two functions. One function calls `extreme`, once, and gives it samples of the
     picture and no numbers made up to be counted."""
-    lesser, greater = code.callers(LESSER), code.callers(GREATER)
-    if len(lesser) != 1 or lesser != greater:
-        for name in sorted({*lesser, *greater}):
-            yield name, f'calls `lesser` and `greater` {lesser.count(name)} and {greater.count(name)} times'
-        if not (lesser and greater):
-            yield LESSER, 'or `greater` is not called'
+    callers = code.callers(EXTREME)
+    if len(callers) != 1:
+        for name in sorted({*callers}):
+            yield name, f'calls `extreme` {callers.count(name)} times, and others {len(callers) - callers.count(name)} times'
+        if not callers:
+            yield EXTREME, 'is not called'
     for f in code.functions.values():
         for call in calls(f.body):
-            if callee(call) in (LESSER, GREATER, code.meeting) and any(a[:2] == ['int', 'w8'] for a in items(call[2])):
-                yield f.name, f'calls `{short(callee(call))}` with a number that is no sample'
+            if callee(call) == EXTREME and any(a[:2] == ['int', 'w8'] for a in items(call[2])):
+                yield f.name, 'calls `extreme` with a number that is no sample'
 
 
 def what_carries_a_tally_is_handed_on_once(code):
@@ -52,7 +65,7 @@ def what_carries_a_tally_is_handed_on_once(code):
         if any(map(code.carries, f.types)):
             yield from HandedOn(code, f).broken
             for call in calls(f.body):
-                if any(map(code.carries, type_arguments(call))):
+                if any(map(code.carries, type_arguments(call))) and short(callee(call)) != PASSED_ON:
                     yield f.name, f'hands a tally to `{short(callee(call))}` under a type parameter'
 
 
@@ -79,9 +92,9 @@ def each_call_that_sweeps_starts_one_tally(code):
 
 def in_a_sweep_samples_are_only_moved_or_met(code):
     """Samples are compared nowhere else in an erosion or dilation. A function that sweeps, or that is lent bytes by one that
-    sweeps, loads a sample, stores it, or gives it to the one function that calls the extremes. It does not compute with a sample,
+    sweeps, loads a sample, stores it, or gives it to `extreme`. It does not compute with a sample,
     decide by it, pass it on or keep it elsewhere, and gets no sample from elsewhere. Parts 3, 5 and 6 are no sweeps; each is lent
-    bytes by its one caller alone."""
+    bytes by its one caller alone. std's `?` passes a picture on, and its copies of a slice move samples."""
     todo = [f for f in code.library if f.name in code.sweeping]
     seen = {f.name for f in todo}
     while todo:
@@ -91,6 +104,8 @@ def in_a_sweep_samples_are_only_moved_or_met(code):
             if name in OTHER_PARTS:
                 if OTHER_PARTS[name] != f.name:
                     yield f.name, f'lends its bytes to `{short(name)}`'
+            elif name.split('::')[0] in ('core', 'std') and short(name) in (TAKEN_APART, *MOVING):
+                continue
             elif name not in code.functions:
                 yield f.name, f'lends its bytes to `{name}`, whose statements are not in the print'
             elif name not in seen:
@@ -111,7 +126,7 @@ def kinds(code, f, given):
 
 
 def moved_or_met(code, f):
-    """Yields what a function does with a sample besides loading it, storing it and giving it to the extremes."""
+    """Yields what a function does with a sample besides loading it, storing it and giving it to `extreme`."""
     for s in statements(f.body):
         if s[0] in ('cond', 'switch') and code.is_sample(f, s[1]):
             yield f.name, 'decides by a sample'
@@ -120,7 +135,7 @@ def moved_or_met(code, f):
                 yield f.name, what
         if s[0] == 'call':
             name, sample = callee(s), code.program.type_at(f, s[3]) == BYTE
-            if name not in (code.meeting, LESSER, GREATER) and any(code.is_sample(f, a) for a in items(s[2])):
+            if name != EXTREME and any(code.is_sample(f, a) for a in items(s[2])):
                 yield f.name, f'passes a sample to `{short(name)}`'
             if sample and name != CHOSEN:
                 yield f.name, f'takes a sample from `{short(name)}`'

@@ -1,7 +1,7 @@
 """Follows every path through a function, from its first statement to each return, and notes what a rule has to know about it."""
 import mir
 from mir import TAG, Unknown, callee, filled, head, items, operands, statements
-from program import CHOSEN, COUNTED, LINE, MET, NUMBER, REFUSALS, short
+from program import CHOSEN, COUNTED, COUNTS, EXTREME, LENGTH, LINE, MET, NUMBER, PASSED_ON, REFUSALS, short
 
 NOTHING = frozenset()
 NAMES = {
@@ -151,6 +151,8 @@ class HandedOn(Ways):
     def put(self, place, parts, origin, state):
         n, steps = int(place[1]), items(place[2])
         if steps and not self.code.carries(self.kind(place)):
+            if 'number' in state.get(n, NOTHING):
+                self.no('changes the counts of a line once the number is in them')
             if parts and not any(step[0] == 'deref' for step in steps):
                 self.no('keeps an extreme or a number in a part of something')
             return state  # the sample or number is stored
@@ -178,7 +180,7 @@ class HandedOn(Ways):
 
     def spends(self, due, by):
         """Tells whether the call of `by` compares the extreme again, or writes the number to the line."""
-        return 'sample' in due and by == self.code.meeting or 'number' in due and by == LINE
+        return 'sample' in due and by == EXTREME or 'number' in due and by == LINE
 
     def use_reference(self, n, state, by):
         if by is None:
@@ -202,16 +204,24 @@ class HandedOn(Ways):
             n = int(value[1][1][1])
             given, origin = state.get(n, NOTHING) & {'sample', 'number'}, self.origin.get(n, origin)
             state = {**state, n: state.get(n, NOTHING) - given}
+        if value[0] == 'aggregate' and self.kind(place)[:2] == ['ty_named', COUNTS]:
+            given, state = self.counts_of(operands(value), state)
         for operand in operands(value):
             state = self.use(operand, state)
         kind = self.kind(place)
         return self.put(place, self.whole(kind) if self.code.carries(kind) else given, origin, state)
 
+    def counts_of(self, given, state):
+        """Returns whether a number is among what is put into the counts of a line, and the state after that: the counts hold it now."""
+        numbers = {int(o[1][1]) for o in given if head(o) == 'copy' and 'number' in state.get(int(o[1][1]), NOTHING)}
+        after = {**state, **{n: state[n] - {'number'} for n in numbers}}
+        return frozenset({'number'} if numbers else ()), after
+
     def call(self, name, arguments, place, state):
         for argument in arguments:
             state = self.use(argument, state, name)
         kind = self.kind(place)
-        if self.code.carries(kind) and name not in self.code.functions:
+        if self.code.carries(kind) and name not in self.code.functions and short(name) != PASSED_ON:
             self.no(f'takes a tally from `{short(name)}`, whose statements are not in the print')
         given = frozenset({CHOSEN: {'sample'}, NUMBER: {'number'}}.get(name, NOTHING))
         parts = self.whole(kind) if self.code.carries(kind) else given
@@ -221,7 +231,7 @@ class HandedOn(Ways):
 class Reported(Ways):
     """Notes how far the function is: it has no answer yet; it has one; its answer is reported, by the line or by a function that took
     it. With an answer it only takes that apart: it does no arithmetic, makes no other call, and stores only parts of the answer and
-    the number of its tally. After the report it calls and stores nothing."""
+    the number of its tally. After the report it stores nothing, and calls nothing but what takes the line's length out of its Some."""
 
     NONE, ANSWERED, DONE = range(3)
 
@@ -259,7 +269,7 @@ class Reported(Ways):
 
     def call(self, name, arguments, place, state):
         takes = any(head(a) == 'copy' and self.code.carries(self.kind(a[1])) for a in arguments)
-        if state == self.DONE:
+        if state == self.DONE and name != LENGTH:
             self.no(f'calls `{short(name)}` after its answer is reported')
         elif state == self.ANSWERED and not takes and name not in (LINE, *REFUSALS):
             self.no(f'calls `{short(name)}` while it has an answer')

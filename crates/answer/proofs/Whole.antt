@@ -1,25 +1,16 @@
 -- An answer with buffers that are long enough for any picture is the program's line, and its destination has the program's marks. Assumes nothing.
-use Prim.Native.Nat.{ℕ, ◌≤◌}
-use native.Mathlib.Nat.{pos_of_ne-zero}
-use native.Mathlib.Omega.{arith}
-use mathlib.Core.Path.{◌≡◌, refl, sym, ap, subst, ◌∙◌}
-use mathlib.Core.Bool.{Bool, true, false}
-use mathlib.Core.List.{List}
-use lib.Dec.{eqb}
-use lib.ListN.{length}
-use borrow.Author.Tests.{eqb-false}
+use Rattle.std.proofs.Common.{ℕ, ◌≤◌, pos_of_ne-zero, arith, ◌≡◌, refl, sym, ap, subst, ◌∙◌, Bool, true, false, List, eqb, length}
+use Rattle.std.proofs.lemmas.Bool.{eqb-false}
 use Rattle.image.specs.declared.LumaError.TheVariants.{EmptyDimensions}
 use Rattle.image.specs.LayoutLaws.{neither}
 use Rattle.image.specs.Plane.{picture, painted_on}
 use Rattle.image.specs.Views.{picture_again}
-use Rattle.imgproc.specs.declared.Check.{Check}
-use Rattle.imgproc.specs.declared.Check.TheVariants.{Accepted, Refused}
+use Rattle.std.specs.Prelude.{Ok, Err}
 use Rattle.imgproc.specs.declared.ImgProcError.TheVariants.{Image}
-use Rattle.imgproc.specs.Refusals.{first, ◌then◌, answer_by, left_by}
+use Rattle.imgproc.specs.Refusals.{Check, first, ◌then◌, answer_by, left_by}
 use Rattle.imgproc.specs.Reading.{reading_settings, reading_room, reading_conditions, reading_of, marked}
-use Rattle.pgm.specs.declared.Parsed.{Parsed}
-use Rattle.pgm.specs.declared.Parsed.TheVariants.{Picture, Malformed}
-use Rattle.pgm.specs.Form.{Form, Answers}
+use Rattle.std.specs.Prelude.{Option, Some, None}
+use Rattle.pgm.specs.Form.{Form, Parsed, Answers}
 use Rattle.pgm.specs.Line.{Writes}
 use Rattle.pgm.specs.Parse.{parsed_of}
 use Rattle.pgm.specs.ParseLaws.{parsed_answers}
@@ -28,7 +19,7 @@ use Rattle.answer.specs.Program.{empty, picture_line, picture_marks, most_pixels
 use Rattle.answer.specs.ProgramLaws.{line_picture, line_other, marks_picture, marks_by_lem}
 use Rattle.answer.specs.RoomLaws.{room_enough, empty_refused}
 
-module _ (input : List ℕ) {lent left : Buffers} {n : ℕ}
+module _ (input : List ℕ) {lent left : Buffers} {n : Option ℕ}
     (d : most_pixels ≤ length lent.dst) (b : most_bytes ≤ length lent.bytes) (q : most_u64s ≤ length lent.u64s)
     (a : AnswersInput input lent n left)
   where
@@ -56,23 +47,23 @@ module _ (input : List ℕ) {lent left : Buffers} {n : ℕ}
     either : (w h : ℕ) (f : Form input w h) (e : Bool) → empty w h ≡ e → Answer
     either w h f true x =
         let rest = reading_settings settings then reading_room (tight w h) settings (length lent.bytes) (length lent.u64s) in
-        checked w h f (Refused (Image EmptyDimensions)) (empty_refused w h _ _ rest x) (rw x) (rw x)
+        checked w h f (Err (Image EmptyDimensions)) (empty_refused w h _ _ rest x) (rw x) (rw x)
     either w h f false x =
         let s = neither (eqb w 0) (eqb h 0) x in
         let W = pos_of_ne-zero (eqb-false w 0 s.0) in
         let H = pos_of_ne-zero (eqb-false h 0 s.1) in
         let k : picture f.pixels (tight w h) ≡ f.pixels = picture_again f.pixels (tight w h) W refl f.counted in
-        checked w h f Accepted (room_enough w h W H f.wide f.high _ _ _ _ (omega (arith, f.counted)) d b q) (rw (k, x)) (rw (k, x))
+        checked w h f (Ok tt) (room_enough w h W H f.wide f.high _ _ _ _ (omega (arith, f.counted)) d b q) (rw (k, x)) (rw (k, x))
 
     pub whole : AnswersAndMarks input lent.dst lent.out n left.dst left.out
     unfolding Answer
     whole = go (parsed_of input) (parsed_answers input)
       where
         go : (r : Parsed) → Answers input r → Answer
-        go (Picture w h at) p = either w h p.0 (empty w h) refl
-        go Malformed other =
+        go (Some p) k = either p.width p.height k.form (empty p.width p.height) refl
+        go None other =
             let x = a.other other in
             record {
               writes = rw (line_other input other) x.writes;
-              marks = x.dst_left ∙ sym (marks_by_lem input Malformed other lent.dst);
+              marks = x.dst_left ∙ sym (marks_by_lem input None other lent.dst);
             }

@@ -1,12 +1,11 @@
 -- What `answer` promises: the line of the reading of the picture that an input is, or refusal 11. Definitions only.
-use Rattle.std.specs.Prelude.{ℕ, ◌≡◌, List, [], ◌∷◌, pos}
+use Rattle.std.specs.Prelude.{ℕ, ◌≡◌, List, [], ◌∷◌, pos, Option, None}
 use Rattle.image.specs.declared.Geometry.{Geometry}
 use Rattle.image.specs.Answers.{Answer, accepted, refused}
 use Rattle.imgproc.specs.declared.grid.config.TileThresholdMethod.TheVariants.{Midrange}
 use Rattle.imgproc.specs.declared.reading.config.ReadingConfig.{ReadingConfig}
 use Rattle.imgproc.specs.Refusals.{first, answer_by}
 use Rattle.imgproc.specs.Reading.{ReadingLent, ReadingLeft, ReadingNumbers, reading_conditions, numbers_from, Reads}
-use Rattle.pgm.specs.declared.Parsed.TheVariants.{Malformed}
 use Rattle.pgm.specs.Form.{Form, parsed_number}
 use Rattle.pgm.specs.Line.{line, refused_line, Writes}
 
@@ -69,18 +68,18 @@ answer_of w h (accepted c) = counts_line w h c
 answer_of w h (refused n) = refused_line n
 
 -- the answer to a picture: its line is written, and the destination and the workspaces are as the reading leaves them
-pub record AnswersPicture (w h : ℕ) (pixels : List ℕ) (lent : Buffers) (answer : ℕ) (left : Buffers) : Type 0 where
+pub record AnswersPicture (w h : ℕ) (pixels : List ℕ) (lent : Buffers) (answer : Option ℕ) (left : Buffers) : Type 0 where
   pub writes : Writes (answer_of w h (read_of (lent_to w h pixels lent settings))) lent.out answer left.out
   pub reads : Reads (lent_to w h pixels lent settings) (read_of (lent_to w h pixels lent settings)) (left_by left)
 
 -- the answer to an input that is no picture: refusal 11 is written, and every other buffer is as it was
-pub record AnswersMalformed (lent : Buffers) (answer : ℕ) (left : Buffers) : Type 0 where
-  pub writes : Writes (refused_line (parsed_number Malformed)) lent.out answer left.out
+pub record AnswersMalformed (lent : Buffers) (answer : Option ℕ) (left : Buffers) : Type 0 where
+  pub writes : Writes (refused_line (parsed_number None)) lent.out answer left.out
   pub dst_left : left.dst ≡ lent.dst
   pub bytes_left : left.bytes ≡ lent.bytes
   pub u64s_left : left.u64s ≡ lent.u64s
 
 -- the contract of `answer`: to a picture, by the sides and the pixels of its form; to any other input, refusal 11
-pub record AnswersInput (input : List ℕ) (lent : Buffers) (answer : ℕ) (left : Buffers) : Type 0 where
+pub record AnswersInput (input : List ℕ) (lent : Buffers) (answer : Option ℕ) (left : Buffers) : Type 0 where
   pub picture : (w h : ℕ) → (f : Form input w h) → AnswersPicture w h f.pixels lent answer left
   pub other : ((w h : ℕ) → Form input w h → ⊥) → AnswersMalformed lent answer left

@@ -1,12 +1,10 @@
 -- What the program `reading` prints for each input, what stands in the destination then, and what the reading of the
 -- largest picture is lent. Definitions only.
-use Rattle.std.specs.Prelude.{ℕ, ◌*◌, ◌≤◌, ◌≡◌, Bool, cond, ◌||◌, List, ◌++◌, eqb, length, take, drop}
+use Rattle.std.specs.Prelude.{ℕ, ◌*◌, ◌≤◌, ◌≡◌, Bool, cond, ◌||◌, List, ◌++◌, eqb, length, take, drop, Option, Some, None}
 use Rattle.image.specs.Plane.{painted_on}
 use Rattle.imgproc.specs.GridCalls.{tile_count}
 use Rattle.imgproc.specs.Reading.{reading_of, marked, reading_bytes, reading_u64s}
-use Rattle.pgm.specs.declared.Parsed.{Parsed}
-use Rattle.pgm.specs.declared.Parsed.TheVariants.{Picture, Malformed}
-use Rattle.pgm.specs.Form.{side_limit, input_limit, parsed_number}
+use Rattle.pgm.specs.Form.{side_limit, input_limit, Parsed, parsed_number}
 use Rattle.pgm.specs.Parse.{parsed_of}
 use Rattle.pgm.specs.Line.{refused_line, Writes}
 use Rattle.answer.specs.Answer.{settings, tight, counts_line}
@@ -27,25 +25,25 @@ picture_line w h pixels = cond (empty w h) (refused_line empty_number) (counts_l
 abbrev pub picture_marks : ℕ → ℕ → List ℕ → List ℕ → List ℕ
 picture_marks w h pixels dst = cond (empty w h) dst (painted_on dst (tight w h) (marked settings w h pixels))
 
--- the line of what was parsed: the picture's, whose pixels start at `at`, or "refused 11"
-abbrev pub line_by : Parsed → List ℕ → List ℕ
-line_by (Picture w h at) input = picture_line w h (drop at input)
-line_by Malformed input = refused_line (parsed_number Malformed)
+-- the line of what was parsed: the picture's, or "refused 11"
+abbrev pub line_by : Parsed → List ℕ
+line_by (Some p) = picture_line p.width p.height p.pixels
+line_by None = refused_line (parsed_number None)
 
 -- the destination of what was parsed: the picture's, or as it was
-abbrev pub marks_by : Parsed → List ℕ → List ℕ → List ℕ
-marks_by (Picture w h at) input dst = picture_marks w h (drop at input) dst
-marks_by Malformed input dst = dst
+abbrev pub marks_by : Parsed → List ℕ → List ℕ
+marks_by (Some p) dst = picture_marks p.width p.height p.pixels dst
+marks_by None dst = dst
 
 -- the line that the program prints for an input, whatever the input is
 unfoldable pub program_line : List ℕ → List ℕ
 unfolding parsed_of
-program_line input = line_by (parsed_of input) input
+program_line input = line_by (parsed_of input)
 
 -- the destination once the program has answered an input
 unfoldable pub program_marks : List ℕ → List ℕ → List ℕ
 unfolding parsed_of
-program_marks input dst = marks_by (parsed_of input) input dst
+program_marks input dst = marks_by (parsed_of input) dst
 
 -- the pixels of the largest picture, 3,600
 abbrev pub most_pixels : ℕ
@@ -70,7 +68,7 @@ pub record Prints (text before : List ℕ) (answer : ℕ) (after : List ℕ) : T
 
 -- the contract of `answer_and_mark`: the line is written where the buffer has room for any line, and the destination is
 -- marked
-pub record AnswersAndMarks (input dst out : List ℕ) (answer : ℕ) (dst' out' : List ℕ) : Type 0 where
+pub record AnswersAndMarks (input dst out : List ℕ) (answer : Option ℕ) (dst' out' : List ℕ) : Type 0 where
   pub writes : Writes (program_line input) out answer out'
   pub marks : dst' ≡ program_marks input dst
 

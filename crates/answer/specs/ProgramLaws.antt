@@ -2,13 +2,10 @@
 -- picture has, have the line of the whole. Assumes nothing.
 use Prim.Native.Nat.{ℕ, ◌≤◌}
 use Rattle.std.proofs.Common.{arith, sym, subst, ◌∙◌, length-append, length-take-le, le-ltb}
-use Rattle.std.specs.Prelude.{◌≡◌, refl, Bool, cond, length, take, drop}
+use Rattle.std.specs.Prelude.{◌≡◌, refl, Bool, cond, length, take, drop, Option, Some, None}
 use Rattle.std.proofs.Math.Path.{ap}
 use mathlib.Core.List.{List, ◌++◌}
-use Rattle.pgm.specs.declared.Parsed.{Parsed}
-use Rattle.pgm.specs.declared.Parsed.TheVariants.{Picture, Malformed}
-use Rattle.pgm.specs.Form.{header, Form, input_limit, parsed_number, Answers}
-use Rattle.pgm.specs.FormLaws.{after_header}
+use Rattle.pgm.specs.Form.{Form, input_limit, PictureFound, Parsed, parsed_number, Answers}
 use Rattle.pgm.specs.Line.{line_room, refused_line, Writes}
 use Rattle.pgm.specs.ParseLaws.{parsed_by, start_parsed}
 use Rattle.answer.specs.Program.{picture_line, picture_marks, line_by, marks_by, program_line, program_marks}
@@ -16,43 +13,50 @@ use Rattle.answer.specs.Program.{Prints, ReadPart, PrintsStart}
 
 -- ---- the line and the marks by the form
 
+-- the picture of a form
+abbrev pub pictured : (input : List ℕ) (w h : ℕ) → Form input w h → PictureFound
+pictured input w h f = record { width = w; height = h; pixels = f.pixels }
+
 module _ (input : List ℕ) where
   pub line_picture : (w h : ℕ) (f : Form input w h) → program_line input ≡ picture_line w h f.pixels
   unfolding program_line
-  line_picture w h f =
-      parsed_by line_by input (Picture w h (length (header w h))) (f, refl)
-      ∙ ap (picture_line w h) (after_header input w h f)
+  line_picture w h f = parsed_by line_by input (Some (pictured input w h f)) (record { form = f; same = refl })
 
-  pub line_other : Answers input Malformed → program_line input ≡ refused_line (parsed_number Malformed)
+  pub line_other : Answers input None → program_line input ≡ refused_line (parsed_number None)
   unfolding program_line
-  line_other none = parsed_by line_by input Malformed none
+  line_other none = parsed_by line_by input None none
 
-  pub marks_by_lem : (r : Parsed) → Answers input r → (dst : List ℕ) → program_marks input dst ≡ marks_by r input dst
+  pub marks_by_lem : (r : Parsed) → Answers input r → (dst : List ℕ) → program_marks input dst ≡ marks_by r dst
   unfolding program_marks
-  marks_by_lem r a dst = ap (λ (f : List ℕ → List ℕ). f dst) (parsed_by marks_by input r a)
+  marks_by_lem r a dst = parsed_by (λ (p : Parsed). marks_by p dst) input r a
 
   pub marks_picture : (w h : ℕ) (f : Form input w h) (dst : List ℕ) →
       program_marks input dst ≡ picture_marks w h f.pixels dst
-  marks_picture w h f dst =
-      marks_by_lem (Picture w h (length (header w h))) (f, refl) dst
-      ∙ ap (λ (p : List ℕ). picture_marks w h p dst) (after_header input w h f)
+  marks_picture w h f dst = marks_by_lem (Some (pictured input w h f)) (record { form = f; same = refl }) dst
 
 -- ---- the first bytes are enough
 
 -- an input and its first 3,614 bytes, or more of them, have the same line
 pub line_start : (input : List ℕ) (m : ℕ) → input_limit ≤ m → program_line (take m input) ≡ program_line input
 unfolding program_line
-line_start input m enough = start_parsed input m enough line_by (λ a b. refl)
+line_start input m enough = ap line_by (start_parsed input m enough)
 
--- a line that is written into a buffer with room for any line is printed
-pub printed : (text before : List ℕ) {n : ℕ} (after : List ℕ) → line_room ≤ length before → Writes text before n after →
-    Prints text before n after
-printed text before after l x = record {
-  answers = x.answers ∙ ap (λ (b : Bool). cond b 0 (length text)) (le-ltb (length before) line_room l);
-  leaves =
-      x.leaves
-      ∙ ap (λ (b : Bool). cond b before (text ++ drop (length text) before)) (le-ltb (length before) line_room l);
-}
+-- a buffer with room for any line gets one, and it is printed
+pub line_fits : (text before : List ℕ) {r : Option ℕ} {after : List ℕ} → line_room ≤ length before →
+    Writes text before r after → r ≡ Some (length text)
+line_fits text before l x =
+    x.answers ∙ ap (λ (b : Bool). cond b None (Some (length text))) (le-ltb (length before) line_room l)
+
+pub printed : (text before : List ℕ) {r : Option ℕ} {n : ℕ} (after : List ℕ) → line_room ≤ length before → r ≡ Some n →
+    Writes text before r after → Prints text before n after
+printed text before {r} {n} after l e x =
+    let s : Some n ≡ Some (length text) = sym e ∙ line_fits text before l x in
+    record {
+      answers = cc;
+      leaves =
+          x.leaves
+          ∙ ap (λ (b : Bool). cond b before (text ++ drop (length text) before)) (le-ltb (length before) line_room l);
+    }
 
 -- a program for which the first bytes are enough answers what was read of an input as it answers the whole
 module _ (program : List ℕ → List ℕ)

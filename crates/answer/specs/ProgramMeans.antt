@@ -1,11 +1,9 @@
 -- The whole program in three lines: "refused 11" exactly for an input that is no picture, "refused 1" exactly for a
 -- picture with a zero side, and the six numbers of the reading for every other. Assumes nothing.
-use Rattle.std.specs.Prelude.{ℕ, ◌<◌, ◌≡◌, refl, Bool, true, false, cond, ◌||◌, ◌↔◌, ◌⊎◌, List, [], ◌∷◌, eqb}
+use Rattle.std.specs.Prelude.{ℕ, ◌<◌, ◌≡◌, refl, Bool, true, false, cond, ◌||◌, ◌↔◌, ◌⊎◌, List, [], ◌∷◌, eqb, Some, None}
 use Rattle.std.proofs.Common.{arith, sym, ap, ◌∙◌, inl, inr, ⊎_elim, eq-eqb, ne_eqb, eqb-true}
 use Rattle.imgproc.specs.Reading.{reading_of}
-use Rattle.pgm.specs.declared.Parsed.{Parsed}
-use Rattle.pgm.specs.declared.Parsed.TheVariants.{Picture, Malformed}
-use Rattle.pgm.specs.Form.{Form, IsPicture, Answers}
+use Rattle.pgm.specs.Form.{Form, IsPicture, Parsed, Answers}
 use Rattle.pgm.specs.Line.{line, refused_line}
 use Rattle.pgm.specs.LineLaws.{refused_once, not_refused}
 use Rattle.pgm.specs.Parse.{parsed_of}
@@ -58,20 +56,24 @@ module _ (input : List ℕ) where
   refused_only n e = go (parsed_of input) (parsed_answers input)
     where
       go : (r : Parsed) → Answers input r → ((n ≡ 11) × (IsPicture input → ⊥)) ⊎ ((n ≡ 1) × IsEmpty input)
-      go Malformed none =
+      go None none =
           inl (refused_once n 11 (sym e ∙ line_other input none), λ p. none p.width p.height p.form)
-      go (Picture w h at) p = side (empty w h) refl
+      go (Some p) a = side (empty p.width p.height) refl
         where
-          side : (b : Bool) → empty w h ≡ b → ((n ≡ 11) × (IsPicture input → ⊥)) ⊎ ((n ≡ 1) × IsEmpty input)
+          side : (b : Bool) → empty p.width p.height ≡ b →
+              ((n ≡ 11) × (IsPicture input → ⊥)) ⊎ ((n ≡ 1) × IsEmpty input)
           side true x =
               inr (
-                refused_once n 1 (sym e ∙ by_sides w h p.0 true x),
-                record { picture = record { width = w; height = h; form = p.0 }; zero = zero_side w h x },
+                refused_once n 1 (sym e ∙ by_sides p.width p.height a.form true x),
+                record {
+                  picture = record { width = p.width; height = p.height; form = a.form };
+                  zero = zero_side p.width p.height x;
+                },
               )
           side false x =
-              let c = reading_of settings w h p.0.pixels in
+              let c = reading_of settings p.width p.height a.form.pixels in
               let rest = c.dark ∷ c.light ∷ c.skipped ∷ c.comparisons ∷ [] in
-              absurd (not_refused w h n rest (sym (by_sides w h p.0 false x) ∙ e))
+              absurd (not_refused p.width p.height n rest (sym (by_sides p.width p.height a.form false x) ∙ e))
 
   -- the program's line is as `Answered` says
   pub answered : Answered input

@@ -5,7 +5,7 @@ use Rattle.std.proofs.Common.{mul-le-mul, mul_comm, arith, ap, ◌∙◌, le-ltb
 use Rattle.image.specs.declared.LumaError.TheVariants.{EmptyDimensions}
 use Rattle.image.specs.Layout.{Kept}
 use Rattle.image.specs.LayoutLaws.{no_sides}
-use Rattle.imgproc.specs.declared.Check.TheVariants.{Accepted, Refused}
+use Rattle.std.specs.Prelude.{Ok, Err}
 use Rattle.imgproc.specs.declared.ImgProcError.TheVariants.{Image}
 use Rattle.imgproc.specs.GridCalls.{grid_settings, tile_count}
 use Rattle.imgproc.specs.Refusals.{
@@ -24,7 +24,7 @@ use Rattle.answer.specs.Answer.{settings, tight}
 use Rattle.answer.specs.Program.{empty, most_pixels, most_tiles, most_bytes, most_u64s}
 
 -- the program's settings are accepted
-settings_taken : first (reading_settings settings) ≡ Accepted
+settings_taken : first (reading_settings settings) ≡ Ok tt
 unfolding first reading_settings division_settings grid_settings sauvola_settings
 settings_taken = refl
 
@@ -62,7 +62,7 @@ module _ (w h : ℕ) (W : 0 < w) (H : 0 < h) (ww : w ≤ side_limit) (hh : h ≤
       (pair_conditions pixels (tight w h) dst (tight w h)
       then reading_settings settings
       then reading_room (tight w h) settings bytes u64s)
-      ≡ Accepted
+      ≡ Ok tt
   room_enough pixels dst bytes u64s p d b q =
       let room = reading_room (tight w h) settings bytes u64s in
       then_accepted (pair_conditions pixels (tight w h) dst (tight w h)) (reading_settings settings then room)
@@ -76,6 +76,6 @@ module _ (w h : ℕ) (W : 0 < w) (H : 0 < h) (ww : w ≤ side_limit) (hh : h ≤
 
 -- a zero side is refused before all else
 pub empty_refused : (w h pixels dst : ℕ) (rest : Conditions) → empty w h ≡ true →
-    first (pair_conditions pixels (tight w h) dst (tight w h) then rest) ≡ Refused (Image EmptyDimensions)
+    first (pair_conditions pixels (tight w h) dst (tight w h) then rest) ≡ Err (Image EmptyDimensions)
 empty_refused w h pixels dst rest e =
     source_refused pixels (tight w h) dst (tight w h) rest (no_sides pixels (tight w h) e)

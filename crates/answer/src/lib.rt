@@ -8,16 +8,14 @@ ghost use Rattle.answer.specs.Program.{program_line, AnswersAndMarks, ReadPart, 
 ghost use Rattle.imgproc.specs.Reading.{read_answer};
 ghost use Rattle.pgm.specs.Line.{Writes};
 
-use image::Geometry;
+use image::{Geometry, Refusal};
+use imgproc::ImgProcError;
 use imgproc::illumination::BackgroundDivideConfig;
 use imgproc::morphology::tally;
-use imgproc::reading::{Read, ReadingConfig};
+use imgproc::reading::{ReadingConfig, ReadingCounts};
 use imgproc::threshold::SauvolaConfig;
-use pgm::Parsed;
+use pgm::{Counts, Picture};
 use std::io;
-
-// The number of an input that is no picture.
-pub const MALFORMED: u32 = 11;
 
 // The pixels of the largest picture, 60 × 60, which a destination holds.
 pub const PIXELS: usize = pgm::SIDE_LIMIT * pgm::SIDE_LIMIT;
@@ -54,36 +52,40 @@ fn settings() -> ReadingConfig
 }
 
 // Writes the line of a reading's answer.
-fn write_read(width: usize, height: usize, read: Read, out: &mut [u8]) -> usize
+fn write_read(
+    width: usize,
+    height: usize,
+    read: Result<ReadingCounts, ImgProcError>,
+    out: &mut [u8],
+) -> Option<usize>
     ensures { Writes (answer_of width height (read_answer read)) out.old result out.new }
 {
     match read {
-        Read::Counts(counts) => {
-            pgm::counts_line(
-                width as u64,
-                height as u64,
-                counts.dark,
-                counts.light,
-                counts.skipped,
-                tally::comparisons(counts.tally),
-                out,
-            )
+        Ok(read) => {
+            let counts = Counts {
+                width: width as u64,
+                height: height as u64,
+                dark: read.dark,
+                light: read.light,
+                skipped: read.skipped,
+                comparisons: tally::comparisons(read.tally),
+            };
+            counts.line(out)
         }
-        Read::Refused(error) => pgm::refused_line(imgproc::number(error), out),
+        Err(error) => pgm::refused_line(error.number(), out),
     }
 }
 
-// Reads a picture without padding, and writes the line of its answer.
+// Reads a picture without padding, and writes the line of its answer. The buffers are parameters of their own, as the
+// reading takes them: a struct of them would only be taken apart again.
 fn answer_picture(
-    pixels: &[u8],
-    width: usize,
-    height: usize,
+    picture: Picture<'_>,
     dst: &mut [u8],
     bytes: &mut [u8],
     u64s: &mut [u64],
     out: &mut [u8],
-) -> usize
-    ensures { AnswersPicture width height pixels.now
+) -> Option<usize>
+    ensures { AnswersPicture picture.entry.width picture.entry.height picture.entry.pixels.now
         (record {
           dst = dst.old;
           bytes = bytes.old;
@@ -93,9 +95,14 @@ fn answer_picture(
         result
         (record { dst = dst.new; bytes = bytes.new; u64s = u64s.new; out = out.new }) }
 {
+    let Picture {
+        width,
+        height,
+        pixels,
+    } = picture;
     let geometry = Geometry {
-        width: width,
-        height: height,
+        width,
+        height,
         stride: width,
     };
     let config = settings();
@@ -104,14 +111,15 @@ fn answer_picture(
 }
 
 // Answers an input: writes one line at the start of `out`, and gives its length. A buffer of less than pgm::LINE_ROOM
-// bytes is left as it is, and the answer is 0.
+// bytes is left as it is.
+#[tactic(auto, using(crate::proofs::Inputs::parsing))]
 pub fn answer(
     input: &[u8],
     dst: &mut [u8],
     bytes: &mut [u8],
     u64s: &mut [u64],
     out: &mut [u8],
-) -> usize
+) -> Option<usize>
     ensures { AnswersInput input.now
         (record {
           dst = dst.old;
@@ -122,15 +130,16 @@ pub fn answer(
         result
         (record { dst = dst.new; bytes = bytes.new; u64s = u64s.new; out = out.new }) }
 {
-    let Parsed::Picture(width, height, at) = pgm::parse(input) else {
-        return pgm::refused_line(MALFORMED, out);
-    };
-    answer_picture(&input[at..], width, height, dst, bytes, u64s, out)
+    match pgm::parse(input) {
+        Ok(picture) => answer_picture(picture, dst, bytes, u64s, out),
+        Err(malformed) => pgm::refused_line(malformed.number(), out),
+    }
 }
 
 // Answers an input of any length with workspaces of its own, and marks its picture in a destination. A line buffer of
-// less than LINE bytes is left as it is, and the answer is 0.
-pub fn answer_and_mark(input: &[u8], dst: &mut [u8; PIXELS], out: &mut [u8]) -> usize
+// less than LINE bytes is left as it is.
+#[tactic(auto, using(crate::proofs::Whole::whole))]
+pub fn answer_and_mark(input: &[u8], dst: &mut [u8; PIXELS], out: &mut [u8]) -> Option<usize>
     ensures { AnswersAndMarks input.now dst.old out.old
         result dst.new out.new }
 {
@@ -139,7 +148,8 @@ pub fn answer_and_mark(input: &[u8], dst: &mut [u8; PIXELS], out: &mut [u8]) -> 
     answer(input, dst, &mut bytes, &mut u64s, out)
 }
 
-// Reads the first bytes of an input, as many as the buffer holds or the whole input, and gives how many they are.
+// Reads the first bytes of an input, as many as the buffer holds or the whole input, and gives how many they are. Of
+// std's calls, read_exact does not tell how many bytes a shorter input has, and read_to_end needs the heap.
 pub fn read_start<R: io::Read>(input: &mut R, buffer: &mut [u8; INPUT]) -> io::Result<usize>
     ensures within { IfOk result (λ n. n ≤ length buffer.new) }
     ensures bytes { IfOk result (λ n. IfSome (R.remaining input.old) (Starts buffer.new n)) }
@@ -159,11 +169,7 @@ pub fn read_start<R: io::Read>(input: &mut R, buffer: &mut [u8; INPUT]) -> io::R
 pub fn read_part(buffer: &[u8; INPUT], n: usize) -> &[u8]
     ensures { ReadPart buffer.now n result.now }
 {
-    let all: &[u8] = buffer;
-    if INPUT < n {
-        return all;
-    }
-    &all[..n]
+    &buffer[..n.min(INPUT)]
 }
 
 // Answers an input by its first bytes, n of which were read into the buffer: as many as it holds, or the whole input.
@@ -171,5 +177,5 @@ pub fn answer_start(buffer: &[u8; INPUT], n: usize, line: &mut [u8; LINE]) -> us
     ensures { PrintsStart program_line buffer.now n line.old result line.new }
 {
     let mut dst = [0u8; PIXELS];
-    answer_and_mark(read_part(buffer, n), &mut dst, line)
+    answer_and_mark(read_part(buffer, n), &mut dst, line).unwrap()
 }

@@ -1,14 +1,7 @@
 -- One law for each way out of `draw`: the line, and the rows after it where there are any, are what the program writes. Assumes nothing.
-use Prim.Native.Nat.{ℕ, ◌+◌, ◌*◌, ◌≤◌, ◌<◌}
-use native.Mathlib.Nat.{mul-le-mul}
-use native.Mathlib.Omega.{arith}
-use mathlib.Core.Path.{◌≡◌, refl, sym, ap, subst, ◌∙◌}
-use mathlib.Core.Bool.{Bool, true, false, cond}
-use mathlib.Core.List.{List, [], ◌++◌, append_assoc, append-nil}
-use lib.Dec.{eqb}
-use lib.ListN.{length, take, drop, length-append, take-append-drop}
-use lib.Seq.{length-take-le, take_at, drop-append-le, drop-append-add, drop-drop}
-use borrow.Author.Tests.{eq-eqb, ne_eqb, eqb-false}
+use Rattle.std.proofs.Common.{ℕ, ◌+◌, ◌*◌, ◌≤◌, ◌<◌, mul-le-mul, arith, ◌≡◌, refl, sym, ap, subst, ◌∙◌, ◌⊎◌, inl, inr, Bool, true, false, cond, List, [], ◌++◌, append_assoc, append-nil, eqb, length, take, drop, length-append, take-append-drop, length-take-le, take_at, drop-drop, eq-eqb, ne_eqb}
+use Rattle.std.proofs.Math.Seq.{drop-append-le, drop-append-add}
+use Rattle.std.proofs.lemmas.Bool.{eqb-false}
 use Rattle.image.specs.Plane.{pixel, painted_on, overwritten}
 use Rattle.image.specs.PlaneLaws.{in_plane, pixel_plane, plane_same, length-plane}
 use Rattle.image.specs.PaintLaws.{painted_pixel}
@@ -16,14 +9,13 @@ use Rattle.image.specs.Views.{length-painted_on}
 use Rattle.imgproc.specs.declared.reading.judging.Judgement.{Judgement}
 use Rattle.imgproc.specs.declared.reading.judging.Judgement.TheVariants.{Dark, Light, Skipped}
 use Rattle.imgproc.specs.Reading.{judged, byte_of, marked}
-use Rattle.pgm.specs.declared.Parsed.{Parsed}
-use Rattle.pgm.specs.declared.Parsed.TheVariants.{Picture}
-use Rattle.pgm.specs.Form.{side_limit, Answers}
+use Rattle.std.specs.Prelude.{Option, Some}
+use Rattle.pgm.specs.Form.{side_limit, Parsed, Pictured, Answers}
 use Rattle.pgm.specs.Line.{line_room}
 use Rattle.answer.specs.Answer.{settings, tight}
 use Rattle.answer.specs.Program.{empty, program_line, most_pixels, Prints, AnswersAndMarks}
 use Rattle.answer.specs.ProgramLaws.{marks_by_lem, printed}
-use Rattle.column.specs.Drawing.{mark_of, row_byte, rows_of, rows_by, program_rows, program_drawing, drawing_room}
+use Rattle.column.specs.Drawing.{picture_rows, mark_of, row_byte, rows_of, rows_by, program_rows, program_drawing, drawing_room}
 use Rattle.column.specs.DrawingLaws.{rows_by_lem}
 use Rattle.column.specs.Steps.{ink_of, Room, DrawsRows}
 
@@ -32,6 +24,11 @@ ink_mark : (j : Judgement) → ink_of (byte_of settings.sauvola j) ≡ mark_of j
 ink_mark Dark = refl
 ink_mark Light = refl
 ink_mark Skipped = refl
+
+-- a picture with a zero side has no rows
+pub no_rows : (w h : ℕ) (pixels : List ℕ) → (w ≡ 0) ⊎ ((w ≡ 0 → ⊥) × (h ≡ 0)) → picture_rows w h pixels ≡ []
+no_rows w h pixels (inl z) = rw (eq-eqb w 0 z)
+no_rows w h pixels (inr z) = rw (ne_eqb w 0 z.0, eq-eqb h 0 z.1)
 
 -- a drawing of two parts, a text and rows
 module _ (text rows out : List ℕ) where
@@ -57,19 +54,22 @@ module _ (text rows out : List ℕ) where
 
 -- what is known once the line is written into the first part of a buffer: there is room for the rows, and the destination is marked
 pub record Lined (input out dst part dst' : List ℕ) (n : ℕ) : Type 0 where
+  pub answer : Option ℕ
+  pub counted : answer ≡ Some n
   pub room : drawing_room ≤ length out
   pub pixels : length dst ≡ most_pixels
   pub same : length part ≡ length (take line_room out)
-  pub answers : AnswersAndMarks input dst (take line_room out) n dst' part
+  pub answers : AnswersAndMarks input dst (take line_room out) answer dst' part
 
 pub lined :
-    {input out dst part dst' : List ℕ} {n : ℕ}
+    {input out dst part dst' : List ℕ} {r : Option ℕ} {n : ℕ}
+    → r ≡ Some n
     → drawing_room ≤ length out
     → length dst ≡ most_pixels
     → length part ≡ length (take line_room out)
-    → AnswersAndMarks input dst (take line_room out) n dst' part
+    → AnswersAndMarks input dst (take line_room out) r dst' part
     → Lined input out dst part dst' n
-lined room pixels same answers = record { room = room; pixels = pixels; same = same; answers = answers }
+lined {r = r} counted room pixels same answers = record { answer = r; counted = counted; room = room; pixels = pixels; same = same; answers = answers }
 
 module _ {input out dst part dst' : List ℕ} {n : ℕ} (k : Lined input out dst part dst' n) where
   front : length (take line_room out) ≡ line_room
@@ -77,7 +77,7 @@ module _ {input out dst part dst' : List ℕ} {n : ℕ} (k : Lined input out dst
 
   -- the line stands at the start of its part
   line : Prints (program_line input) (take line_room out) n part
-  line = printed (program_line input) (take line_room out) part (omega (arith, front)) k.answers.writes
+  line = printed (program_line input) (take line_room out) part (omega (arith, front)) k.counted k.answers.writes
 
   -- the line fits its part
   short : length (program_line input) ≤ line_room
@@ -107,44 +107,36 @@ module _ {input out dst part dst' : List ℕ} {n : ℕ} (k : Lined input out dst
       )
 
   -- there are no rows: nothing more is drawn
-  pub undrawn : (r : Parsed) → Answers input r → rows_by r input ≡ [] → Prints (program_drawing input) out n (part ++ drop line_room out)
+  pub undrawn : (r : Parsed) → Answers input r → rows_by r ≡ [] → Prints (program_drawing input) out n (part ++ drop line_room out)
   undrawn r a z = alone (program_line input) (program_rows input) out (part ++ drop line_room out) (rows_by_lem input r a ∙ z) line.answers begins
 
-  -- because the width is 0
-  pub undrawn_wide : (w h at : ℕ) → Answers input (Picture w h at) → w ≡ 0 → Prints (program_drawing input) out n (part ++ drop line_room out)
-  undrawn_wide w h at a z = undrawn (Picture w h at) a (rw (eq-eqb w 0 z))
-
-  -- or the height
-  pub undrawn_high : (w h at : ℕ) → Answers input (Picture w h at) → (w ≡ 0 → ⊥) → h ≡ 0 → Prints (program_drawing input) out n (part ++ drop line_room out)
-  undrawn_high w h at a W z = undrawn (Picture w h at) a (rw (ne_eqb w 0 W, eq-eqb h 0 z))
-
   -- the rows of a picture with no zero side
-  module _ (w h at : ℕ) (a : Answers input (Picture w h at)) (W : w ≡ 0 → ⊥) (H : h ≡ 0 → ⊥) where
+  module _ (w h : ℕ) (pixels : List ℕ) (a : Pictured input (record { width = w; height = h; pixels = pixels })) (W : w ≡ 0 → ⊥) (H : h ≡ 0 → ⊥) where
     full : empty w h ≡ false
     full = rw (ne_eqb w 0 W, ne_eqb h 0 H)
 
     -- the destination has the reading's marks in its rows
-    left_marks : dst' ≡ painted_on dst (tight w h) (marked settings w h (drop at input))
+    left_marks : dst' ≡ painted_on dst (tight w h) (marked settings w h pixels)
     left_marks =
         k.answers.marks
-        ∙ marks_by_lem input (Picture w h at) a dst
-        ∙ ap (λ (b : Bool). cond b dst (painted_on dst (tight w h) (marked settings w h (drop at input)))) full
+        ∙ marks_by_lem input (Some (record { width = w; height = h; pixels = pixels })) a dst
+        ∙ ap (λ (b : Bool). cond b dst (painted_on dst (tight w h) (marked settings w h pixels))) full
 
     pub length-marks : length dst' ≡ most_pixels
-    length-marks = ap length left_marks ∙ length-painted_on dst (tight w h) (marked settings w h (drop at input)) ∙ k.pixels
+    length-marks = ap length left_marks ∙ length-painted_on dst (tight w h) (marked settings w h pixels) ∙ k.pixels
 
     area : w * h ≤ most_pixels
-    area = mul-le-mul a.0.wide a.0.high
+    area = mul-le-mul a.form.wide a.form.high
 
     judgement : ℕ → ℕ → Judgement
-    judgement = judged settings w h (drop at input)
+    judgement = judged settings w h pixels
 
     -- a pixel of the destination is the byte of its judgement
     pixel_is : (x y : ℕ) → x < w → y < h → pixel dst' w x y ≡ byte_of settings.sauvola (judgement x y)
     unfolding marked judgement
     pixel_is x y X Y =
         ap (λ (d : List ℕ). pixel d w x y) left_marks
-        ∙ painted_pixel (marked settings w h (drop at input)) w h w dst x y X Y (omega arith) (omega (arith, k.pixels, area, in_plane w h x y X Y))
+        ∙ painted_pixel (marked settings w h pixels) w h w dst x y X Y (omega arith) (omega (arith, k.pixels, area, in_plane w h x y X Y))
         ∙ pixel_plane w h (λ x y. byte_of settings.sauvola (judgement x y)) x y X Y
 
     -- so each byte of its rows is drawn as the program draws it
@@ -161,20 +153,20 @@ module _ {input out dst part dst' : List ℕ} {n : ℕ} (k : Lined input out dst
     rows_same : program_rows input ≡ rows_of w h (λ x y. ink_of (pixel dst' w x y))
     unfolding judgement
     rows_same =
-        rows_by_lem input (Picture w h at) a
+        rows_by_lem input (Some (record { width = w; height = h; pixels = pixels })) a
         ∙ ap (λ (b : Bool). cond b [] (rows_of w h (λ x y. mark_of (judgement x y)))) full
         ∙ sym (plane_same (w + 1) h (row_byte (λ x y. ink_of (pixel dst' w x y)) w) (row_byte (λ x y. mark_of (judgement x y)) w) (omega arith) byte_is)
 
     -- there is room for them
     pub room_rows : Room dst' w h (part ++ drop line_room out) n
     room_rows = record {
-      small = omega (arith, a.0.wide);
+      small = omega (arith, a.form.wide);
       holds = omega (arith, area, length-marks);
       fits = omega (arith, k.room, length-after, short, line.answers, most);
     }
       where
         most : (w + 1) * h ≤ (side_limit + 1) * side_limit
-        most = mul-le-mul {n₁ = w + 1} {m₁ = h} {n₂ = side_limit + 1} {m₂ = side_limit} (omega (arith, a.0.wide)) a.0.high
+        most = mul-le-mul {n₁ = w + 1} {m₁ = h} {n₂ = side_limit + 1} {m₂ = side_limit} (omega (arith, a.form.wide)) a.form.high
 
     -- the line and the rows are the program's drawing
     pub drawn : {r : ℕ} (out' : List ℕ) → DrawsRows dst' w h (part ++ drop line_room out) n r out' → Prints (program_drawing input) out r out'

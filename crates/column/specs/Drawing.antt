@@ -1,13 +1,11 @@
 -- What the program `column` writes for each input: the line of the program `reading`, and the rows of its picture.
 -- Definitions only.
-use Rattle.std.specs.Prelude.{ℕ, ◌+◌, ◌*◌, cond, List, [], ◌++◌, eqb, drop}
+use Rattle.std.specs.Prelude.{ℕ, ◌+◌, ◌*◌, cond, List, [], ◌++◌, eqb, Some, None}
 use Rattle.image.specs.Plane.{plane}
 use Rattle.imgproc.specs.declared.reading.judging.Judgement.{Judgement}
 use Rattle.imgproc.specs.declared.reading.judging.Judgement.TheVariants.{Dark, Light, Skipped}
 use Rattle.imgproc.specs.Reading.{judged}
-use Rattle.pgm.specs.declared.Parsed.{Parsed}
-use Rattle.pgm.specs.declared.Parsed.TheVariants.{Picture, Malformed}
-use Rattle.pgm.specs.Form.{side_limit}
+use Rattle.pgm.specs.Form.{side_limit, Parsed}
 use Rattle.pgm.specs.Line.{line_room}
 use Rattle.pgm.specs.Parse.{parsed_of}
 use Rattle.answer.specs.Answer.{settings}
@@ -31,15 +29,15 @@ rows_of w h mark = plane (w + 1) h (row_byte mark w)
 abbrev pub picture_rows : ℕ → ℕ → List ℕ → List ℕ
 picture_rows w h pixels = cond (empty w h) [] (rows_of w h (λ x y. mark_of (judged settings w h pixels x y)))
 
--- the rows of what was parsed: the picture's, whose pixels start at `at`, or none
-abbrev pub rows_by : Parsed → List ℕ → List ℕ
-rows_by (Picture w h at) input = picture_rows w h (drop at input)
-rows_by Malformed input = []
+-- the rows of what was parsed: the picture's, or none
+abbrev pub rows_by : Parsed → List ℕ
+rows_by (Some p) = picture_rows p.width p.height p.pixels
+rows_by None = []
 
 -- the rows that are drawn for an input, whatever the input is
 unfoldable pub program_rows : List ℕ → List ℕ
 unfolding parsed_of
-program_rows input = rows_by (parsed_of input) input
+program_rows input = rows_by (parsed_of input)
 
 -- what the program writes for an input
 abbrev pub program_drawing : List ℕ → List ℕ

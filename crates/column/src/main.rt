@@ -3,12 +3,10 @@
 #![tactic(auto)]
 
 ghost use Rattle.std.specs.Prelude.{◌+◌, ◌*◌, ◌≤◌, ◌<◌, ◌≡◌, length};
-ghost use Rattle.image.specs.Plane.{pixel};
 ghost use Rattle.answer.specs.Program.{Prints, PrintsStart};
-ghost use Rattle.column.specs.Drawing.{row_byte, program_drawing, drawing_room};
+ghost use Rattle.column.specs.Drawing.{program_drawing, drawing_room};
 ghost use Rattle.column.specs.Steps.{ink_of, Room, DrawsRows};
 
-use pgm::Parsed;
 use std::io;
 
 // The length of a buffer that holds any line, and 60 rows of 60 marks and a line feed each: 3,788.
@@ -18,36 +16,22 @@ const DRAWING: usize = answer::LINE + (pgm::SIDE_LIMIT + 1) * pgm::SIDE_LIMIT;
 fn ink(value: u8) -> u8
     ensures { result ≡ ink_of value }
 {
-    if value == 0 {
-        return b'#';
-    }
-    b'.'
+    if value == 0 { b'#' } else { b'.' }
 }
 
-// Gives byte x of a drawn row: a mark, or the line feed that ends the row.
-fn row_byte(pixels: &[u8], width: usize, x: usize, y: usize) -> u8
-    requires { (x ≡ width → ⊥) → y * width + x < length pixels.now }
-    ensures { result ≡ row_byte (λ x y. ink_of (pixel pixels.now width x y)) width x y }
-{
-    if x == width {
-        return b'\n';
-    }
-    ink(pixels[y * width + x])
-}
-
-// Draws the rows of a picture from `at` on, and answers the place after them.
+// Draws the rows of a picture from `at` on, each ended by a line feed, and answers the place after them.
 fn draw_rows(pixels: &[u8], width: usize, height: usize, out: &mut [u8], at: usize) -> usize
     requires { Room pixels.now width height out.old at }
     ensures { DrawsRows pixels.now width height out.old at result out.new }
 {
-    let wide = width + 1;
-    let total = wide * height;
-    let mut i = 0;
-    while i < total {
-        out[at + i] = row_byte(pixels, width, i % wide, i / wide);
-        i += 1;
+    for y in 0..height {
+        let row = at + y * (width + 1);
+        for (x, value) in pixels[y * width..(y + 1) * width].iter().enumerate() {
+            out[row + x] = ink(*value);
+        }
+        out[row + width] = b'\n';
     }
-    at + total
+    at + height * (width + 1)
 }
 
 // Writes the line of an input of any length and the rows of its picture, and answers how many bytes they are.
@@ -56,17 +40,14 @@ fn draw(input: &[u8], out: &mut [u8]) -> usize
     ensures { Prints (program_drawing input.now) out.old result out.new }
 {
     let mut dst = [0u8; answer::PIXELS];
-    let length = answer::answer_and_mark(input, &mut dst, &mut out[..answer::LINE]);
-    let Parsed::Picture(width, height, _) = pgm::parse(input) else {
+    let length = answer::answer_and_mark(input, &mut dst, &mut out[..answer::LINE]).unwrap();
+    let Ok(picture) = pgm::parse(input) else {
         return length;
     };
-    if width == 0 {
+    if picture.width == 0 || picture.height == 0 {
         return length;
     }
-    if height == 0 {
-        return length;
-    }
-    draw_rows(&dst, width, height, out, length)
+    draw_rows(&dst, picture.width, picture.height, out, length)
 }
 
 // Draws an input by its first bytes, n of which were read into the buffer: as many as it holds, or the whole input.

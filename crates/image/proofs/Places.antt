@@ -10,23 +10,22 @@ use denote.Ref.{Bor}
 use borrow.Author.Tests.{ltb-true}
 use Rattle.image.specs.declared.Geometry.{Geometry}
 use Rattle.image.specs.declared.LumaError.{LumaError}
-use Rattle.image.specs.declared.Layout.{Layout}
-use Rattle.image.specs.declared.Layout.TheVariants.{Valid, Invalid}
-use Rattle.image.specs.Answers.{accepted, refused, bare}
-use Rattle.image.specs.Layout.{number_of, pixel_layout, row_layout, refusal_of}
+use Rattle.std.specs.Prelude.{Ok, Err}
+use Rattle.image.specs.Answers.{accepted, bare}
+use Rattle.image.specs.Layout.{Layout, number_of, pixel_layout, row_layout}
 use Rattle.image.specs.LayoutLaws.{row_within, row_inside, pixel_inside}
 use Rattle.image.specs.Pixel.{value_in, written_in, bytes_in, Sets}
 use Rattle.image.specs.Plane.{pixel, part}
 use Rattle.image.specs.Row.{row_in, row_at, Hands}
 
 module _ (len : ℕ) (g : Geometry) {v : Geometry} {l : Layout} where
-  pub row_place_lem : (y : ℕ) → l ≡ row_layout len g y → l ≡ Valid v → y * v.stride + v.width ≤ len
+  pub row_place_lem : (y : ℕ) → l ≡ row_layout len g y → l ≡ Ok v → y * v.stride + v.width ≤ len
   row_place_lem y is i =
       let k = row_inside len g v y (sym is ∙ i) in
       let e = ap (λ (u : Geometry). y * u.stride + u.width) k.0.1 in
       omega (arith, row_within k.0.0 y (ltb-true _ _ k.1))
 
-  pub pixel_place_lem : (x y : ℕ) → l ≡ pixel_layout len g x y → l ≡ Valid v → y * v.stride + x < len
+  pub pixel_place_lem : (x y : ℕ) → l ≡ pixel_layout len g x y → l ≡ Ok v → y * v.stride + x < len
   pixel_place_lem x y is i =
       let k = pixel_inside len g v x y (sym is ∙ i) in
       let e = ap (λ (u : Geometry). y * u.stride + x) k.0.1 in
@@ -35,25 +34,15 @@ module _ (len : ℕ) (g : Geometry) {v : Geometry} {l : Layout} where
 
 module _ (d : List ℕ) (g : Geometry) {l : Layout} where
   module _ (x y : ℕ) (is : l ≡ pixel_layout (length d) g x y) where
-    pub value_refused : {e r : LumaError} → l ≡ Invalid e → r ≡ refusal_of l → refused (number_of r) ≡ value_in (pixel_layout (length d) g x y) d x y
-    value_refused i q = ap (λ (k : LumaError). refused (number_of k)) (q ∙ ap refusal_of i) ∙ ap (λ (k : Layout). value_in k d x y) (sym i ∙ is)
-
-    pub value_found : {v : Geometry} → l ≡ Valid v → accepted (pixel d v.stride x y) ≡ value_in (pixel_layout (length d) g x y) d x y
+    pub value_found : {v : Geometry} → l ≡ Ok v → accepted (pixel d v.stride x y) ≡ value_in (pixel_layout (length d) g x y) d x y
     value_found i = ap (λ (k : Layout). value_in k d x y) (sym i ∙ is)
 
-    pub set_refused : (b : ℕ) {e r : LumaError} → l ≡ Invalid e → r ≡ refusal_of l → Sets d g x y b (refused (number_of r)) d
-    set_refused b i q =
-        record {
-          answers = ap (λ (k : LumaError). refused (number_of k)) (q ∙ ap refusal_of i) ∙ ap written_in (sym i ∙ is);
-          leaves = ap (λ (k : Layout). bytes_in k d x y b) (sym i ∙ is);
-        }
-
-    pub set_done : (b : ℕ) {v : Geometry} → l ≡ Valid v → Sets d g x y b (accepted bare) (set d (y * v.stride + x) b)
+    pub set_done : (b : ℕ) {v : Geometry} → l ≡ Ok v → Sets d g x y b (accepted bare) (set d (y * v.stride + x) b)
     set_done b i = record { answers = ap written_in (sym i ∙ is); leaves = ap (λ (k : Layout). bytes_in k d x y b) (sym i ∙ is) }
 
 -- `row` and `row_mut` hand out r: its bytes and its place are the row's
 module _ (d : Bor (List ℕ)) (g : Geometry) (y : ℕ) {l : Layout} (is : l ≡ row_layout (length d.now) g y) {r : Bor (List ℕ)} where
-  pub row_empty : {e : LumaError} → l ≡ Invalid e → r.now ≡ [] → r.ref_ptr ≡ (d.ref_ptr.0, 0 + d.ref_ptr.1) → Hands d g y r
+  pub row_empty : {e : LumaError} → l ≡ Err e → r.now ≡ [] → r.ref_ptr ≡ (d.ref_ptr.0, 0 + d.ref_ptr.1) → Hands d g y r
   row_empty i b p = record {
     bytes = b ∙ ap (λ (k : Layout). row_in k d.now y) (sym i ∙ is);
     place = p ∙ ap (λ (n : ℕ). (d.ref_ptr.0, n)) (zero-add d.ref_ptr.1) ∙ ap (λ (k : Layout). row_at k d.ref_ptr y) (sym i ∙ is);
@@ -61,7 +50,7 @@ module _ (d : Bor (List ℕ)) (g : Geometry) (y : ℕ) {l : Layout} (is : l ≡ 
 
   pub row_found :
       {v : Geometry}
-      → l ≡ Valid v
+      → l ≡ Ok v
       → r.now ≡ part (y * v.stride) (y * v.stride + v.width - y * v.stride) d.now
       → r.ref_ptr ≡ (d.ref_ptr.0, y * v.stride + d.ref_ptr.1)
       → Hands d g y r

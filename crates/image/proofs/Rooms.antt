@@ -7,19 +7,14 @@ use lib.ListN.{length}
 use borrow.Author.Tests.{lt-ltb, le-ltb}
 use Rattle.image.specs.declared.Geometry.{Geometry}
 use Rattle.image.specs.declared.LumaError.{LumaError}
-use Rattle.image.specs.declared.Layout.{Layout}
-use Rattle.image.specs.declared.Layout.TheVariants.{Valid, Invalid}
+use Rattle.std.specs.Prelude.{Ok, Err}
 use Rattle.image.specs.Answers.{Answer, accepted, refused, Bare, bare}
-use Rattle.image.specs.Layout.{Kept, layout_of, number_of, refusal_of}
+use Rattle.image.specs.Layout.{Layout, Kept, layout_of}
 use Rattle.image.specs.LayoutLaws.{kept_as, area_small}
 use Rattle.image.specs.Copy.{copied_in, packed_in, unpacked_in, Packs, Unpacks}
 
 module _ (len : ℕ) (g : Geometry) (at room : ℕ) {l : Layout} (is : l ≡ layout_of len g) where
-  -- the layout is refused
-  pub copied_refused : {e r : LumaError} → l ≡ Invalid e → r ≡ refusal_of l → refused (number_of r) ≡ copied_in (layout_of len g) at room
-  copied_refused i q = ap (λ (k : LumaError). refused (number_of k)) (q ∙ ap refusal_of i) ∙ ap (λ (k : Layout). copied_in k at room) (sym i ∙ is)
-
-  module _ {v : Geometry} (i : l ≡ Valid v) where
+  module _ {v : Geometry} (i : l ≡ Ok v) where
     -- of a valid one: what holds of its numbers, and that it is the geometry that was lent
     pub kept_here : Kept len v
     kept_here = let k = kept_as len g v (sym is ∙ i) in subst (λ (u : Geometry). Kept len u) k.1 k.0
@@ -31,7 +26,7 @@ module _ (len : ℕ) (g : Geometry) (at room : ℕ) {l : Layout} (is : l ≡ lay
     pub area_fits : v.width * v.height < 18446744073709551616
     area_fits = omega (arith, area_small kept_here)
 
-    there : copied_in (Valid v) at room ≡ copied_in (layout_of len g) at room
+    there : copied_in (Ok v) at room ≡ copied_in (layout_of len g) at room
     there = ap (λ (k : Layout). copied_in k at room) (sym i ∙ is)
 
     -- the plane does not lie in the workspace, or it does

@@ -1,5 +1,5 @@
 -- An answer in document 01's numbers, and the list of conditions that decides it. Definitions only.
-use Rattle.std.specs.Prelude.{ℕ, Bool, cond, List, [], ◌∷◌}
+use Rattle.std.specs.Prelude.{ℕ, Bool, cond, List, [], ◌∷◌, Result, Ok, Err}
 
 -- an answer: accepted with its values, or refused with a number
 pub data Answer (A : Type 0) : Type 0 where
@@ -7,8 +7,16 @@ pub data Answer (A : Type 0) : Type 0 where
   refused : ℕ → Answer A
 
 -- the value of an accepted call that has nothing more to tell
-pub data Bare : Type 0 where
-  bare : Bare
+abbrev pub Bare : Type 0
+Bare = Unit
+
+abbrev pub bare : Bare
+bare = tt
+
+-- what a result says: its value, or the number of its refusal
+abbrev pub answered : {A E : Type 0} → (E → ℕ) → Result A E → Answer A
+answered number (Ok v) = accepted v
+answered number (Err e) = refused (number e)
 
 -- the number of an answer: 0 where it is accepted
 abbrev pub answer_number : {A : Type 0} → Answer A → ℕ

@@ -1,26 +1,23 @@
 -- What `pack` and `unpack` promise: rows of a strided picture go into a packed plane of a workspace, and back out.
 -- Definitions only.
-use Rattle.std.specs.Prelude.{ℕ, ◌+◌, ◌*◌, ◌≡◌, cond, List, ltb, length}
+use Rattle.std.specs.Prelude.{ℕ, ◌+◌, ◌*◌, ◌≡◌, cond, List, ltb, length, Ok, Err}
 use Rattle.image.specs.declared.Geometry.{Geometry}
-use Rattle.image.specs.declared.Layout.{Layout}
-use Rattle.image.specs.declared.Layout.TheVariants.{Valid, Invalid}
-use Rattle.image.specs.declared.Copied.{Copied}
-use Rattle.image.specs.declared.Copied.TheVariants.{Done, Refused, WorkspaceTooSmall}
+use Rattle.image.specs.declared.CopyError.{CopyError}
+use Rattle.image.specs.declared.CopyError.TheVariants.{Image, WorkspaceTooSmall}
 use Rattle.image.specs.Answers.{Answer, accepted, refused, Bare, bare}
-use Rattle.image.specs.Layout.{layout_of, number_of}
+use Rattle.image.specs.Layout.{Layout, layout_of, number_of}
 use Rattle.image.specs.Plane.{picture, painted_on, part, overwritten}
 
--- what `Copied` says: a bare success, or the number of the refusal
-abbrev pub copied_answer : Copied → Answer Bare
-copied_answer Done = accepted bare
-copied_answer (Refused e) = refused (number_of e)
-copied_answer WorkspaceTooSmall = refused 8
+-- the number of each refusal of a copy
+abbrev pub copy_number : CopyError → ℕ
+copy_number (Image e) = number_of e
+copy_number WorkspaceTooSmall = 8
 
 -- the answer of a copy: the layout's refusal; then 8 where the w × h bytes from `at` on do not lie in a workspace of
 -- `room` bytes
 abbrev pub copied_in : Layout → ℕ → ℕ → Answer Bare
-copied_in (Invalid e) at room = refused (number_of e)
-copied_in (Valid g) at room = cond (ltb room (at + g.width * g.height)) (refused 8) (accepted bare)
+copied_in (Err e) at room = refused (number_of e)
+copied_in (Ok g) at room = cond (ltb room (at + g.width * g.height)) (refused 8) (accepted bare)
 
 -- the workspace after `pack`: the packed picture from `at` on, or all as it was where the call is refused
 abbrev pub packed_in : Answer Bare → Geometry → List ℕ → ℕ → List ℕ → List ℕ

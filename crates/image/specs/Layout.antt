@@ -1,5 +1,5 @@
 -- The layout of a picture in a slice: when it is refused, and with which number. Definitions only.
-use Rattle.std.specs.Prelude.{ℕ, ◌+◌, ◌-◌, ◌*◌, ◌≤◌, ◌<◌, Bool, cond, ◌&&◌, ◌||◌, List, [], ◌∷◌, ltb, eqb}
+use Rattle.std.specs.Prelude.{ℕ, ◌+◌, ◌-◌, ◌*◌, ◌≤◌, ◌<◌, Bool, cond, ◌&&◌, ◌||◌, List, [], ◌∷◌, ltb, eqb, Result, Ok, Err}
 use Rattle.image.specs.declared.Geometry.{Geometry}
 use Rattle.image.specs.declared.LumaError.{LumaError}
 use Rattle.image.specs.declared.LumaError.TheVariants.{
@@ -9,9 +9,7 @@ use Rattle.image.specs.declared.LumaError.TheVariants.{
   SideTooLarge,
   OutsidePicture,
 }
-use Rattle.image.specs.declared.Layout.{Layout}
-use Rattle.image.specs.declared.Layout.TheVariants.{Valid, Invalid}
-use Rattle.image.specs.Answers.{Condition, Answer, accepted, refused}
+use Rattle.image.specs.Answers.{Condition, Answer, answered}
 
 -- the largest side
 abbrev pub side_limit : ℕ
@@ -35,10 +33,14 @@ layout_conditions len g =
     record { fits = ltb side_limit g.width || ltb side_limit g.height; refusal = SideTooLarge } ∷
     []
 
+-- a checked layout: the geometry, or why it is refused
+abbrev pub Layout : Type 0
+Layout = Result Geometry LumaError
+
 -- the layout of g by a list of conditions: the first refusal that fits, or the geometry
 abbrev pub layout_by : Geometry → List (Condition LumaError) → Layout
-layout_by g [] = Valid g
-layout_by g (c ∷ cs) = cond c.fits (Invalid c.refusal) (layout_by g cs)
+layout_by g [] = Ok g
+layout_by g (c ∷ cs) = cond c.fits (Err c.refusal) (layout_by g cs)
 
 -- the layout of g in a slice of len bytes
 unfoldable pub layout_of : ℕ → Geometry → Layout
@@ -46,8 +48,8 @@ layout_of len g = layout_by g (layout_conditions len g)
 
 -- the layout when a place in it is asked for: its own refusal first, then OutsidePicture where the place is not inside
 abbrev pub asked_for : Layout → Bool → Layout
-asked_for (Valid g) inside = cond inside (Valid g) (Invalid OutsidePicture)
-asked_for (Invalid e) inside = Invalid e
+asked_for (Ok g) inside = cond inside (Ok g) (Err OutsidePicture)
+asked_for (Err e) inside = Err e
 
 -- the layout when pixel (x, y) is asked for
 abbrev pub pixel_layout : ℕ → Geometry → ℕ → ℕ → Layout
@@ -57,11 +59,6 @@ pixel_layout len g x y = asked_for (layout_of len g) (ltb x g.width && ltb y g.h
 abbrev pub row_layout : ℕ → Geometry → ℕ → Layout
 row_layout len g y = asked_for (layout_of len g) (ltb y g.height)
 
--- the refusal of an invalid layout. Being total, it gives EmptyDimensions for a valid one; no caller relies on that
-abbrev pub refusal_of : Layout → LumaError
-refusal_of (Invalid e) = e
-refusal_of (Valid g) = EmptyDimensions
-
 -- the number that document 01 has for each refusal
 abbrev pub number_of : LumaError → ℕ
 number_of EmptyDimensions = 1
@@ -70,10 +67,9 @@ number_of BufferTooSmall = 3
 number_of SideTooLarge = 4
 number_of OutsidePicture = 9
 
--- what `Layout` says: the geometry, or the number of the refusal
+-- what a layout says: the geometry, or the number of the refusal
 abbrev pub layout_answer : Layout → Answer Geometry
-layout_answer (Valid g) = accepted g
-layout_answer (Invalid e) = refused (number_of e)
+layout_answer = answered number_of
 
 -- what holds of the numbers of a valid layout
 pub record Kept (len : ℕ) (g : Geometry) : Type 0 where

@@ -5,9 +5,9 @@ use Rattle.std.proofs.lemmas.Bool.{eqb-false}
 use Rattle.image.specs.declared.Geometry.{Geometry}
 use Rattle.image.specs.declared.LumaError.{LumaError}
 use Rattle.image.specs.declared.LumaError.TheVariants.{EmptyDimensions, OutsidePicture}
-use Rattle.image.specs.declared.Layout.{Layout}
-use Rattle.image.specs.declared.Layout.TheVariants.{Valid, Invalid}
+use Rattle.std.specs.Prelude.{Ok, Err}
 use Rattle.image.specs.Layout.{
+  Layout,
   Kept,
   needed_length,
   layout_of,
@@ -34,11 +34,11 @@ both true b e = (refl, e)
 both false b e = let z : ◌≡◌ {A = ℕ} 0 1 = cc in absurd (omega arith)
 
 -- no layout is both invalid and valid
-never : (e : LumaError) (g : Geometry) → Invalid e ≡ Valid g → ⊥
+never : (e : LumaError) (g : Geometry) → Err e ≡ Ok g → ⊥
 never e g p = let z : ◌≡◌ {A = ℕ} 0 1 = cc in omega arith
 
 -- a valid layout keeps the geometry that it was asked for, and all that `Kept` says
-pub kept_as : (len : ℕ) (g v : Geometry) → layout_of len g ≡ Valid v → Kept len g × (g ≡ v)
+pub kept_as : (len : ℕ) (g v : Geometry) → layout_of len g ≡ Ok v → Kept len g × (g ≡ v)
 unfolding layout_of
 kept_as len g v e =
     let p1 = passed (eqb g.width 0 || eqb g.height 0) _ _ _ (never _ v) e in
@@ -58,11 +58,11 @@ kept_as len g v e =
       same p4.1,
     )
   where
-    same : {a b : Geometry} → Valid a ≡ Valid b → a ≡ b
+    same : {a b : Geometry} → ◌≡◌ {A = Layout} (Ok a) (Ok b) → a ≡ b
     same {a} {b} p = cc
 
 -- a geometry for which `Kept` holds is valid
-pub kept_valid : {len : ℕ} {g : Geometry} → Kept len g → layout_of len g ≡ Valid g
+pub kept_valid : {len : ℕ} {g : Geometry} → Kept len g → layout_of len g ≡ Ok g
 unfolding layout_of
 kept_valid {len} {g} k =
     simp (
@@ -75,12 +75,12 @@ kept_valid {len} {g} k =
     )
 
 -- and it is not refused
-pub kept_taken : {len : ℕ} {g : Geometry} {e : LumaError} → Kept len g → layout_of len g ≡ Invalid e → ⊥
+pub kept_taken : {len : ℕ} {g : Geometry} {e : LumaError} → Kept len g → layout_of len g ≡ Err e → ⊥
 kept_taken {len} {g} {e} k r = never e g (sym r ∙ kept_valid k)
 
 -- a side of 0 is refused before all else
 pub no_sides : (len : ℕ) (g : Geometry) → (eqb g.width 0 || eqb g.height 0) ≡ true
-    → layout_of len g ≡ Invalid EmptyDimensions
+    → layout_of len g ≡ Err EmptyDimensions
 unfolding layout_of
 no_sides len g e = rw e
 
@@ -99,20 +99,20 @@ row_within {len} {g} k y t =
     omega (arith, k.fits, mul_comm g.stride (g.height - 1))
 
 -- row y of a valid layout is not refused where y is below the height
-pub row_asked : {len : ℕ} {g : Geometry} → Kept len g → (y : ℕ) → y < g.height → row_layout len g y ≡ Valid g
+pub row_asked : {len : ℕ} {g : Geometry} → Kept len g → (y : ℕ) → y < g.height → row_layout len g y ≡ Ok g
 row_asked {len} {g} k y t = rw (kept_valid k, lt-ltb y g.height t)
 
 -- where a place is not refused, the layout is valid and the place lies in the picture
 module _ (len : ℕ) (g v : Geometry) where
-  asked_inside : (l : Layout) (b : Bool) → asked_for l b ≡ Valid v → (l ≡ Valid v) × (b ≡ true)
-  asked_inside (Valid u) true e = (e, refl)
-  asked_inside (Valid u) false e = absurd (never OutsidePicture v e)
-  asked_inside (Invalid r) b e = absurd (never r v e)
+  asked_inside : (l : Layout) (b : Bool) → asked_for l b ≡ Ok v → (l ≡ Ok v) × (b ≡ true)
+  asked_inside (Ok u) true e = (e, refl)
+  asked_inside (Ok u) false e = absurd (never OutsidePicture v e)
+  asked_inside (Err r) b e = absurd (never r v e)
 
-  pub row_inside : (y : ℕ) → row_layout len g y ≡ Valid v → (Kept len g × (g ≡ v)) × (ltb y g.height ≡ true)
+  pub row_inside : (y : ℕ) → row_layout len g y ≡ Ok v → (Kept len g × (g ≡ v)) × (ltb y g.height ≡ true)
   row_inside y e = let a = asked_inside (layout_of len g) (ltb y g.height) e in (kept_as len g v a.0, a.1)
 
-  pub pixel_inside : (x y : ℕ) → pixel_layout len g x y ≡ Valid v
+  pub pixel_inside : (x y : ℕ) → pixel_layout len g x y ≡ Ok v
       → (Kept len g × (g ≡ v)) × ((ltb x g.width ≡ true) × (ltb y g.height ≡ true))
   pixel_inside x y e =
       let a = asked_inside (layout_of len g) (ltb x g.width && ltb y g.height) e in

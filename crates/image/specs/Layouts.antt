@@ -1,8 +1,7 @@
 -- Worked layouts, as one table that antt evaluates: the number of each, and 0 for a valid one. Assumes nothing.
 use Rattle.std.specs.Prelude.{◌≡◌, refl, cond, List, [], ◌∷◌, ℕ, suc, ◌+◌, eqb}
-use Rattle.image.specs.declared.Layout.{Layout}
 use Rattle.image.specs.Answers.{answer_number}
-use Rattle.image.specs.Layout.{side_limit, layout_of, layout_answer, pixel_layout, row_layout}
+use Rattle.image.specs.Layout.{Layout, side_limit, layout_of, layout_answer, pixel_layout, row_layout}
 
 -- the number of a layout's refusal, and 0 for a valid one
 abbrev number : Layout → ℕ

@@ -11,10 +11,10 @@ use Rattle.std.specs.Borrow.{Bor}
 use Rattle.image.specs.declared.Geometry.{Geometry}
 use Rattle.image.specs.declared.LumaError.{LumaError}
 use Rattle.image.specs.declared.LumaError.TheVariants.{OutsidePicture}
-use Rattle.image.specs.declared.Layout.{Layout}
-use Rattle.image.specs.declared.Layout.TheVariants.{Valid, Invalid}
+use Rattle.std.specs.Prelude.{Ok, Err}
 use Rattle.image.specs.Answers.{Answer, accepted, refused, Bare, bare, Condition, numbered, answer_to}
 use Rattle.image.specs.Layout.{
+  Layout,
   layout_conditions,
   layout_by,
   layout_of,
@@ -104,15 +104,15 @@ too_short g at room = record { fits = ltb room (at + g.width * g.height); refusa
 
 -- an answer that passes a layout's refusal on goes by the layout's conditions, and then by `last`, those of a valid one
 module _ {A : Type 0} (g : Geometry)
-    (by : Layout → Answer A) (passes : (e : LumaError) → by (Invalid e) ≡ refused (number_of e))
-    (last : List (Condition ℕ)) (v : A) (valid : by (Valid g) ≡ answer_to last v) where
+    (by : Layout → Answer A) (passes : (e : LumaError) → by (Err e) ≡ refused (number_of e))
+    (last : List (Condition ℕ)) (v : A) (valid : by (Ok g) ≡ answer_to last v) where
   through : (cs : List (Condition LumaError)) → by (layout_by g cs) ≡ answer_to (numbered number_of cs ++ last) v
   unfolding answer_to
   through [] = valid
   through (c ∷ cs) = step c.fits (through cs)
     where
       step : (f : Bool) → by (layout_by g cs) ≡ answer_to (numbered number_of cs ++ last) v
-          → by (cond f (Invalid c.refusal) (layout_by g cs))
+          → by (cond f (Err c.refusal) (layout_by g cs))
           ≡ cond f (refused (number_of c.refusal)) (answer_to (numbered number_of cs ++ last) v)
       step true p = passes c.refusal
       step false p = p
@@ -134,7 +134,7 @@ asked_exactly len g inside =
     exactly g (layout_numbers len g ++ outside inside)
     (layout_through g (λ l. layout_answer (asked_for l inside)) (λ e. refl) (outside inside) g (asked inside) len)
   where
-    asked : (b : Bool) → layout_answer (asked_for (Valid g) b) ≡ answer_to (outside b) g
+    asked : (b : Bool) → layout_answer (asked_for (Ok g) b) ≡ answer_to (outside b) g
     asked true = refl
     asked false = refl
 
@@ -153,8 +153,8 @@ pub row_refused : {d r : Bor (List ℕ)} {g : Geometry} {y n : ℕ} → Hands d 
 row_refused {d} {r} {g} {y} h p = let e = go (row_layout (length d.now) g y) p in (h.bytes ∙ e.0, h.place ∙ e.1)
   where
     go : (l : Layout) {n : ℕ} → layout_answer l ≡ refused n → (row_in l d.now y ≡ []) × (row_at l d.ref_ptr y ≡ d.ref_ptr)
-    go (Valid v) q = absurd (differ v q)
-    go (Invalid e) q = (refl, refl)
+    go (Ok v) q = absurd (differ v q)
+    go (Err e) q = (refl, refl)
 
 -- `get` and `set`
 module _ (d : List ℕ) (g : Geometry) (x y : ℕ) where
@@ -170,7 +170,7 @@ module _ (d : List ℕ) (g : Geometry) (x y : ℕ) where
       exactly v (layout_numbers (length d) g ++ outside inside)
       (layout_through g by (λ e. refl) (outside inside) v (asked inside) (length d))
     where
-      asked : (b : Bool) → value_in (asked_for (Valid g) b) d x y ≡ answer_to (outside b) (pixel d g.stride x y)
+      asked : (b : Bool) → value_in (asked_for (Ok g) b) d x y ≡ answer_to (outside b) (pixel d g.stride x y)
       asked true = refl
       asked false = refl
 
@@ -182,7 +182,7 @@ module _ (d : List ℕ) (g : Geometry) (x y : ℕ) where
         exactly bare (layout_numbers (length d) g ++ outside inside)
         (sets.answers ∙ layout_through g by (λ e. refl) (outside inside) bare (asked inside) (length d))
       where
-        asked : (b : Bool) → written_in (asked_for (Valid g) b) ≡ answer_to (outside b) bare
+        asked : (b : Bool) → written_in (asked_for (Ok g) b) ≡ answer_to (outside b) bare
         asked true = refl
         asked false = refl
 
@@ -191,8 +191,8 @@ module _ (d : List ℕ) (g : Geometry) (x y : ℕ) where
     set_keeps p = sets.leaves ∙ go (pixel_layout (length d) g x y) (sym sets.answers ∙ p)
       where
         go : (l : Layout) {n : ℕ} → written_in l ≡ refused n → bytes_in l d x y v ≡ d
-        go (Valid u) q = absurd (differ bare q)
-        go (Invalid e) q = refl
+        go (Ok u) q = absurd (differ bare q)
+        go (Err e) q = refl
 
 -- `pack` and `unpack`
 copied_through : (len : ℕ) (g : Geometry) (at room : ℕ)

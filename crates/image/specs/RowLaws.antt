@@ -3,8 +3,7 @@ use Rattle.std.specs.Prelude.{ℕ, ◌+◌, ◌*◌, ◌<◌, ◌≡◌, List, l
 use Rattle.std.proofs.Common.{arith, sym, ap, ◌∙◌}
 use Rattle.std.specs.Borrow.{Bor}
 use Rattle.image.specs.declared.Geometry.{Geometry}
-use Rattle.image.specs.declared.Layout.{Layout}
-use Rattle.image.specs.Layout.{Kept, row_layout}
+use Rattle.image.specs.Layout.{Layout, Kept, row_layout}
 use Rattle.image.specs.LayoutLaws.{row_within, row_asked}
 use Rattle.image.specs.Plane.{pixel, part, picture}
 use Rattle.image.specs.PlaneLaws.{length_part, get_d_part}

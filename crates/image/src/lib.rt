@@ -2,13 +2,20 @@
 // and the last row needs no padding. No public call has a condition: a picture that its slice does not hold is refused.
 #![tactic(auto)]
 
+pub mod refusal;
+pub mod view;
+
 ghost use Rattle.std.specs.Prelude.{◌≡◌, ◌+◌, ◌*◌, ◌≤◌, length};
-ghost use Rattle.image.specs.Layout.{layout_of, pixel_layout, row_layout, refusal_of, number_of, layout_answer, Kept};
-ghost use Rattle.image.specs.Pixel.{pixel_answer, written_answer, value_in, Sets};
+ghost use Rattle.image.specs.Layout.{layout_of, pixel_layout, row_layout, number_of, Kept};
+ghost use Rattle.image.specs.declared.CopyError.TheVariants.{Image};
+ghost use Rattle.image.specs.Answers.{answered};
+ghost use Rattle.image.specs.Pixel.{value_in, Sets};
 ghost use Rattle.image.specs.Row.{Hands, as_bor};
-ghost use Rattle.image.specs.Copy.{copied_answer, Packs, Unpacks};
-ghost use Rattle.image.specs.Answers.{answer_number};
-ghost use Rattle.image.specs.Plane.{picture, painted_on, part, overwritten};
+ghost use Rattle.image.specs.Copy.{copy_number, Packs, Unpacks};
+ghost use Rattle.image.specs.Plane.{painted_on, part};
+
+pub use refusal::{Refusal, answer_number};
+pub use view::Gray8View;
 
 // The largest side of a picture.
 pub const MAX_SIDE: usize = 4096;
@@ -22,7 +29,7 @@ pub struct Geometry {
 }
 
 // Why a picture, or a place in it, is refused.
-#[derive(Clone, Copy)]
+#[derive(Clone, Copy, PartialEq, Eq)]
 pub enum LumaError {
     EmptyDimensions,
     StrideTooSmall,
@@ -31,163 +38,137 @@ pub enum LumaError {
     OutsidePicture,
 }
 
-// A layout that was checked: the geometry, or why it is refused.
-#[derive(Clone, Copy)]
-pub enum Layout {
-    Valid(Geometry),
-    Invalid(LumaError),
+impl Refusal for LumaError {
+    ghost number_of = { number_of };
+
+    fn number(self) -> u32 {
+        match self {
+            LumaError::EmptyDimensions => 1,
+            LumaError::StrideTooSmall => 2,
+            LumaError::BufferTooSmall => 3,
+            LumaError::SideTooLarge => 4,
+            LumaError::OutsidePicture => 9,
+        }
+    }
 }
 
-// What `get` answers: the pixel, or why it is refused.
-#[derive(Clone, Copy)]
-pub enum Pixel {
-    Value(u8),
-    Refused(LumaError),
-}
-
-// What `set` answers: that the pixel is written, or why it is refused.
-#[derive(Clone, Copy)]
-pub enum Written {
-    Done,
-    Refused(LumaError),
-}
-
-// What `pack` and `unpack` answer: that the rows are copied, or why they are not. WorkspaceTooSmall says that the
-// packed plane does not lie in the workspace.
-#[derive(Clone, Copy)]
-pub enum Copied {
-    Done,
-    Refused(LumaError),
+// Why rows are not copied: the picture is refused, or the packed plane does not lie in the workspace.
+#[derive(Clone, Copy, PartialEq, Eq)]
+pub enum CopyError {
+    Image(LumaError),
     WorkspaceTooSmall,
 }
 
+impl From<LumaError> for CopyError {
+    ghost from_gives = { λ e c. c ≡ Image e };
+
+    fn from(error: LumaError) -> CopyError {
+        CopyError::Image(error)
+    }
+}
+
+impl Refusal for CopyError {
+    ghost number_of = { copy_number };
+
+    fn number(self) -> u32 {
+        match self {
+            CopyError::Image(error) => error.number(),
+            CopyError::WorkspaceTooSmall => 8,
+        }
+    }
+}
+
 // Checks that a slice of `len` bytes holds the picture. It tests the length by a quotient, so that nothing wraps.
-pub fn validate_layout(len: usize, geometry: Geometry) -> Layout
+pub fn validate_layout(len: usize, geometry: Geometry) -> Result<Geometry, LumaError>
     ensures { result ≡ layout_of len geometry }
 {
     let width = geometry.width;
     let height = geometry.height;
     let stride = geometry.stride;
     if width == 0 {
-        return Layout::Invalid(LumaError::EmptyDimensions);
+        return Err(LumaError::EmptyDimensions);
     }
     if height == 0 {
-        return Layout::Invalid(LumaError::EmptyDimensions);
+        return Err(LumaError::EmptyDimensions);
     }
     if stride < width {
-        return Layout::Invalid(LumaError::StrideTooSmall);
+        return Err(LumaError::StrideTooSmall);
     }
     if len < width {
-        return Layout::Invalid(LumaError::BufferTooSmall);
+        return Err(LumaError::BufferTooSmall);
     }
     if (len - width) / stride < height - 1 {
-        return Layout::Invalid(LumaError::BufferTooSmall);
+        return Err(LumaError::BufferTooSmall);
     }
     if MAX_SIDE < width {
-        return Layout::Invalid(LumaError::SideTooLarge);
+        return Err(LumaError::SideTooLarge);
     }
     if MAX_SIDE < height {
-        return Layout::Invalid(LumaError::SideTooLarge);
+        return Err(LumaError::SideTooLarge);
     }
-    Layout::Valid(geometry)
-}
-
-// Gives the refusal of an invalid layout. Being total, it gives EmptyDimensions for a valid one, on which no caller
-// relies.
-pub fn refusal(layout: Layout) -> LumaError
-    ensures { result ≡ refusal_of layout }
-{
-    match layout {
-        Layout::Invalid(error) => error,
-        Layout::Valid(_) => LumaError::EmptyDimensions,
-    }
-}
-
-// Gives the number that document 01 has for a refusal.
-pub fn number(error: LumaError) -> u32
-    ensures { result ≡ number_of error }
-{
-    match error {
-        LumaError::EmptyDimensions => 1,
-        LumaError::StrideTooSmall => 2,
-        LumaError::BufferTooSmall => 3,
-        LumaError::SideTooLarge => 4,
-        LumaError::OutsidePicture => 9,
-    }
-}
-
-// Gives the number of a layout's refusal, and 0 for a valid layout.
-pub fn layout_number(layout: Layout) -> u32
-    ensures { result ≡ answer_number (layout_answer layout) }
-{
-    match layout {
-        Layout::Invalid(error) => number(error),
-        Layout::Valid(_) => 0,
-    }
+    Ok(geometry)
 }
 
 // Checks the layout in a slice of `len` bytes, and then that pixel (x, y) lies in the picture.
-pub fn check_pixel(len: usize, geometry: Geometry, x: usize, y: usize) -> Layout
+pub fn check_pixel(
+    len: usize,
+    geometry: Geometry,
+    x: usize,
+    y: usize,
+) -> Result<Geometry, LumaError>
     ensures { result ≡ pixel_layout len geometry x y }
 {
-    let layout = validate_layout(len, geometry);
-    let Layout::Valid(g) = layout else {
-        return layout;
-    };
+    let g = validate_layout(len, geometry)?;
     if g.width <= x {
-        return Layout::Invalid(LumaError::OutsidePicture);
+        return Err(LumaError::OutsidePicture);
     }
     if g.height <= y {
-        return Layout::Invalid(LumaError::OutsidePicture);
+        return Err(LumaError::OutsidePicture);
     }
-    layout
+    Ok(g)
 }
 
 // Checks the layout in a slice of `len` bytes, and then that row y lies in the picture.
-pub fn check_row(len: usize, geometry: Geometry, y: usize) -> Layout
+pub fn check_row(len: usize, geometry: Geometry, y: usize) -> Result<Geometry, LumaError>
     ensures { result ≡ row_layout len geometry y }
 {
-    let layout = validate_layout(len, geometry);
-    let Layout::Valid(g) = layout else {
-        return layout;
-    };
+    let g = validate_layout(len, geometry)?;
     if g.height <= y {
-        return Layout::Invalid(LumaError::OutsidePicture);
+        return Err(LumaError::OutsidePicture);
     }
-    layout
+    Ok(g)
 }
 
 // Reads pixel (x, y).
-pub fn get(data: &[u8], geometry: Geometry, x: usize, y: usize) -> Pixel
-    ensures { pixel_answer result
+pub fn get(data: &[u8], geometry: Geometry, x: usize, y: usize) -> Result<u8, LumaError>
+    ensures { answered number_of result
         ≡ value_in (pixel_layout (length «data».now) geometry x y) «data».now x y }
 {
-    let layout = check_pixel(data.len(), geometry, x, y);
-    let Layout::Valid(g) = layout else {
-        return Pixel::Refused(refusal(layout));
-    };
-    let stride = g.stride;
-    Pixel::Value(data[y * stride + x])
+    let g = check_pixel(data.len(), geometry, x, y)?;
+    Ok(data[y * g.stride + x])
 }
 
 // Writes pixel (x, y), and no other byte.
-pub fn set(data: &mut [u8], geometry: Geometry, x: usize, y: usize, value: u8) -> Written
-    ensures { Sets «data».old geometry x y value (written_answer result) «data».new }
+pub fn set(
+    data: &mut [u8],
+    geometry: Geometry,
+    x: usize,
+    y: usize,
+    value: u8,
+) -> Result<(), LumaError>
+    ensures { Sets «data».old geometry x y value (answered number_of result) «data».new }
 {
-    let layout = check_pixel(data.len(), geometry, x, y);
-    let Layout::Valid(g) = layout else {
-        return Written::Refused(refusal(layout));
-    };
-    let stride = g.stride;
-    data[y * stride + x] = value;
-    Written::Done
+    let g = check_pixel(data.len(), geometry, x, y)?;
+    data[y * g.stride + x] = value;
+    Ok(())
 }
 
-// Hands out row y, the caller's own bytes where they stand; an empty part where `check_row` refuses.
+// Hands out row y, the caller's own bytes where they stand; an empty part where `check_row` refuses, since the call is
+// promised not to fail. It and `row_mut` stand side by side, as `&` and `&mut` do everywhere: nothing is generic over them.
 pub fn row(data: &[u8], geometry: Geometry, y: usize) -> &[u8]
     ensures { Hands «data».entry geometry y result }
 {
-    let Layout::Valid(g) = check_row(data.len(), geometry, y) else {
+    let Ok(g) = check_row(data.len(), geometry, y) else {
         return &data[0..0];
     };
     let from = y * g.stride;
@@ -199,7 +180,7 @@ pub fn row(data: &[u8], geometry: Geometry, y: usize) -> &[u8]
 pub fn row_mut(data: &mut [u8], geometry: Geometry, y: usize) -> &mut [u8]
     ensures { Hands (as_bor «data».entry) geometry y (as_bor result) }
 {
-    let Layout::Valid(g) = check_row(data.len(), geometry, y) else {
+    let Ok(g) = check_row(data.len(), geometry, y) else {
         return &mut data[0..0];
     };
     let start = y * g.stride;
@@ -207,37 +188,8 @@ pub fn row_mut(data: &mut [u8], geometry: Geometry, y: usize) -> &mut [u8]
     &mut data[start..end]
 }
 
-// Copies the bytes of a row over as many others.
-fn copy_row(src: &[u8], dst: &mut [u8])
-    requires { length src.now ≡ length dst.old }
-    ensures { dst.new ≡ src.now }
-{
-    let mut i = 0;
-    while i < dst.len() {
-        dst[i] = src[i];
-        i += 1;
-    }
-}
-
-// Copies the rows of a picture into the workspace, one after another from `at` on.
-fn pack_rows(src: &[u8], geometry: Geometry, workspace: &mut [u8], at: usize)
-    requires { Kept (length src.now) geometry
-        × (at + geometry.width * geometry.height ≤ length workspace.old) }
-    ensures { workspace.new
-        ≡ overwritten at (picture src.now geometry) workspace.old }
-{
-    let width = geometry.width;
-    let height = geometry.height;
-    let mut y = 0;
-    while y < height {
-        let to = at + y * width;
-        let to_end = to + width;
-        copy_row(row(src, geometry, y), &mut workspace[to..to_end]);
-        y += 1;
-    }
-}
-
-// Copies the packed plane that starts at `at` of the workspace into the rows of a picture.
+// Copies the packed plane that starts at `at` of the workspace into the rows of a picture. A destination and its geometry
+// stay two parameters: what is left behind a `&mut` in a struct can only be said by a starred clause.
 fn unpack_rows(workspace: &[u8], at: usize, dst: &mut [u8], geometry: Geometry)
     requires { Kept (length dst.old) geometry
         × (at + geometry.width * geometry.height ≤ length workspace.now) }
@@ -248,66 +200,47 @@ fn unpack_rows(workspace: &[u8], at: usize, dst: &mut [u8], geometry: Geometry)
     let width = geometry.width;
     let height = geometry.height;
     let stride = geometry.stride;
-    let mut y = 0;
-    while y < height {
+    for y in 0..height {
         let from = at + y * width;
         let from_end = from + width;
         let start = y * stride;
         let end = start + width;
-        copy_row(&workspace[from..from_end], &mut dst[start..end]);
-        y += 1;
+        dst[start..end].copy_from_slice(&workspace[from..from_end]);
     }
 }
 
 // Copies the rows of a strided picture into a packed plane of the workspace, which starts at `at`.
-pub fn pack(src: &[u8], geometry: Geometry, workspace: &mut [u8], at: usize) -> Copied
+pub fn pack(
+    src: &[u8],
+    geometry: Geometry,
+    workspace: &mut [u8],
+    at: usize,
+) -> Result<(), CopyError>
     ensures { Packs src.now geometry at workspace.old
-        (copied_answer result) workspace.new }
+        (answered copy_number result) workspace.new }
 {
-    let layout = validate_layout(src.len(), geometry);
-    let Layout::Valid(g) = layout else {
-        return Copied::Refused(refusal(layout));
-    };
-    let width = g.width;
-    let height = g.height;
-    if workspace.len() < at {
-        return Copied::WorkspaceTooSmall;
-    }
-    if workspace.len() - at < width * height {
-        return Copied::WorkspaceTooSmall;
-    }
-    pack_rows(src, g, workspace, at);
-    Copied::Done
+    Gray8View::new(src, geometry)?.pack(workspace, at)
 }
 
 // Copies a packed plane of the workspace, which starts at `at`, into the rows of a strided picture.
-pub fn unpack(workspace: &[u8], at: usize, dst: &mut [u8], geometry: Geometry) -> Copied
+pub fn unpack(
+    workspace: &[u8],
+    at: usize,
+    dst: &mut [u8],
+    geometry: Geometry,
+) -> Result<(), CopyError>
     ensures { Unpacks workspace.now at dst.old geometry
-        (copied_answer result) dst.new }
+        (answered copy_number result) dst.new }
 {
-    let layout = validate_layout(dst.len(), geometry);
-    let Layout::Valid(g) = layout else {
-        return Copied::Refused(refusal(layout));
-    };
+    let g = validate_layout(dst.len(), geometry)?;
     let width = g.width;
     let height = g.height;
     if workspace.len() < at {
-        return Copied::WorkspaceTooSmall;
+        return Err(CopyError::WorkspaceTooSmall);
     }
     if workspace.len() - at < width * height {
-        return Copied::WorkspaceTooSmall;
+        return Err(CopyError::WorkspaceTooSmall);
     }
     unpack_rows(workspace, at, dst, g);
-    Copied::Done
-}
-
-// Gives the number of a copy's refusal, and 0 for a copy that was made.
-pub fn copied_number(copied: Copied) -> u32
-    ensures { result ≡ answer_number (copied_answer copied) }
-{
-    match copied {
-        Copied::Done => 0,
-        Copied::Refused(error) => number(error),
-        Copied::WorkspaceTooSmall => 8,
-    }
+    Ok(())
 }

@@ -1,23 +1,21 @@
 -- What accepted settings and room of `sauvola_into` say. Assumes nothing.
+use Rattle.std.specs.Prelude.{Ok}
 use Prim.Native.Nat.{ℕ, ◌≤◌}
 use native.Mathlib.Nat.{pos_of_ne-zero}
-use mathlib.Core.Path.{◌≡◌, sym, ◌∙◌}
+use mathlib.Core.Path.{◌≡◌}
 use mathlib.Core.Bool.{◌||◌}
 use lib.Dec.{ltb, eqb}
 use borrow.Author.Tests.{ltb-false, eqb-false}
 use Rattle.image.specs.declared.Geometry.{Geometry}
 use Rattle.image.specs.LayoutLaws.{neither}
 use Rattle.imgproc.specs.declared.ImgProcError.TheVariants.{InvalidConfiguration, WorkspaceTooSmall}
-use Rattle.imgproc.specs.declared.Check.{Check}
-use Rattle.imgproc.specs.declared.Check.TheVariants.{Accepted}
 use Rattle.imgproc.specs.declared.threshold.SauvolaConfig.{SauvolaConfig}
 use Rattle.imgproc.specs.Refusals.{first, refused_if, sauvola_settings, settings_and_room, table_entries}
 use Rattle.imgproc.specs.Tables.{InRange}
 use Rattle.imgproc.specs.RefusalLaws.{both_accepted, not_refused}
-use Rattle.imgproc.proofs.WaysOut.{Pair}
 
 -- what accepted settings say, and accepted room
-pub in_range : (config : SauvolaConfig) → first (sauvola_settings config) ≡ Accepted → InRange config
+pub in_range : (config : SauvolaConfig) → first (sauvola_settings config) ≡ Ok tt → InRange config
 unfolding sauvola_settings
 in_range config p =
     let a = eqb config.radius 0 in
@@ -32,18 +30,9 @@ in_range config p =
     }
 
 pub room_for : (config : SauvolaConfig) (g : Geometry) (room : ℕ)
-    → first (settings_and_room config g room) ≡ Accepted
+    → first (settings_and_room config g room) ≡ Ok tt
     → InRange config × (table_entries g.width g.height ≤ room)
 room_for config g room p =
     let short = ltb room (table_entries g.width g.height) in
     let both = both_accepted (sauvola_settings config) (refused_if short WorkspaceTooSmall) p in
     (in_range config both.0, ltb-false room (table_entries g.width g.height) (not_refused short WorkspaceTooSmall both.1))
-
--- the same of the source that was opened
-pub room_here :
-    {a b room : ℕ} {s t g h : Geometry} {config : SauvolaConfig} {check : Check}
-    → Pair a s b t g h
-    → check ≡ first (settings_and_room config g room)
-    → check ≡ Accepted
-    → InRange config × (table_entries g.width g.height ≤ room)
-room_here {g = g} p is a = room_for _ g _ (sym is ∙ a)

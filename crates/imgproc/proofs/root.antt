@@ -1,7 +1,3 @@
--- The f64 root: the laws behind its digits, its rounding and its cases. Assumes nothing.
-mod Step
-mod Scale
+-- The f64 root: that std's square root is `root_of`. Assumes nothing.
 mod Whole
-mod Near
-mod Pack
-mod Cases
+mod Sqrt

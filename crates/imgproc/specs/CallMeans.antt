@@ -1,12 +1,12 @@
 -- What an accepted call from picture to picture leaves, drawn from its contract alone: both layouts and its own
 -- conditions are accepted, and each pixel of its destination is that of the picture that it makes. And when the source
 -- of one such call is that of another, mapped, and the rows likewise. Assumes nothing.
+use Rattle.std.specs.Prelude.{Ok}
 use Rattle.std.specs.Prelude.{ℕ, ◌<◌, ◌≡◌, List, length}
 use Rattle.std.proofs.Common.{arith, sym, ap, ◌∙◌}
 use Rattle.image.specs.Answers.{accepted}
 use Rattle.image.specs.Plane.{pixel, picture}
 use Rattle.image.specs.Views.{painted_on_pixel}
-use Rattle.imgproc.specs.declared.Check.TheVariants.{Accepted}
 use Rattle.imgproc.specs.Refusals.{Conditions, first, pair_conditions}
 use Rattle.imgproc.specs.RefusalLaws.{both_accepted, taken, pair_says}
 use Rattle.imgproc.specs.Calls.{Loan, Left, Operator, Serves, conditions_of, made_of, Paired}
@@ -40,7 +40,7 @@ module _ {S A : Type 0} {operator : Operator S A} (a : AcceptedCall operator) wh
   left_pixel x y = pixel a.left.dst a.lent.target.stride x y
 
   -- no condition of its list fits
-  said : first (conditions_of operator a.lent) ≡ Accepted
+  said : first (conditions_of operator a.lent) ≡ Ok tt
   said = (taken (first (conditions_of operator a.lent)) a.serves.answers).0
 
   -- the conditions of the pair, and those of its own
@@ -53,7 +53,7 @@ module _ {S A : Type 0} {operator : Operator S A} (a : AcceptedCall operator) wh
   pub pair : Paired (length a.lent.src) a.lent.source (length a.lent.dst) a.lent.target
   pair = pair_says _ a.lent.source _ a.lent.target (both_accepted pairs owns said).0
 
-  pub own_accepted : first owns ≡ Accepted
+  pub own_accepted : first owns ≡ Ok tt
   own_accepted = (both_accepted pairs owns said).1
 
   -- each pixel of the rows is that of the picture that the call makes of its source

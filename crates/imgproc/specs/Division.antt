@@ -1,7 +1,6 @@
 -- Document 01, part 3: division by the background, and the contract of `background_divide_into`. Definitions only.
 use Rattle.std.specs.Prelude.{ℕ, ◌+◌, ◌*◌, ◌/◌, ◌≤◌, ◌<◌, min, max, ◌≡◌, List, length, get_or}
 use Rattle.image.specs.declared.Geometry.{Geometry}
-use Rattle.image.specs.Layout.{Kept}
 use Rattle.image.specs.Plane.{plane, pixel, part, picture}
 use Rattle.imgproc.specs.declared.illumination.BackgroundDivideConfig.{BackgroundDivideConfig}
 use Rattle.imgproc.specs.declared.morphology.tally.Tally.{Tally}
@@ -49,9 +48,7 @@ abbrev pub PlaneDivided : BackgroundDivideConfig → ℕ → ℕ → ℕ → Lis
 PlaneDivided d from at n ws ws' = Rowed at n (λ i. quotient d (get_or ws (from + i) 0) (get_or ws (at + i) 0)) ws ws'
 
 -- what `flatten` asks, and leaves: the picture, packed into the first plane, is closed and divided in the second
-pub record FlattenReady (tally : Tally) (src : List ℕ) (g : Geometry) (d : BackgroundDivideConfig) (ws : List ℕ)
-    : Type 0 where
-  pub from : Kept (length src) g
+pub record FlattenReady (tally : Tally) (g : Geometry) (d : BackgroundDivideConfig) (ws : List ℕ) : Type 0 where
   pub kernel : 0 < d.structuring_element
   pub floor : 0 < d.denominator_floor
   pub fits : 6 * (g.width * g.height) ≤ length ws

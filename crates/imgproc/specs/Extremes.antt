@@ -4,6 +4,7 @@ use Rattle.std.specs.Prelude.{◌≡◌, refl, ◌⊎◌}
 use Rattle.std.proofs.Math.Path.{sym, subst}
 use Rattle.std.proofs.Common.{◌∙◌, inl, inr, le_refl, le_trans, le_antisymm, eq-or-lt_of_le}
 use Rattle.std.proofs.Math.Logic.{⊎_elim}
+use Rattle.std.proofs.lemmas.Bool.{cases_lt}
 use Prim.Native.Nat.{ℕ, zero, suc, ◌+◌, ◌-◌, ◌≤◌, min, max}
 use Rattle.std.proofs.Math.Nat.{min-le_left, min-le_right, le-max_left, le-max_right}
 use native.Mathlib.Omega.{arith}
@@ -32,11 +33,6 @@ Low a b = a ≤ b
 abbrev pub High : ℕ → ℕ → Type 0
 High a b = b ≤ a
 
-le_or : (a b : ℕ) → (a ≤ b) ⊎ (b ≤ a)
-le_or zero b = inl (omega arith)
-le_or (suc a) zero = inr (omega arith)
-le_or (suc a) (suc b) = ⊎_elim (λ p. inl (omega arith)) (λ q. inr (omega arith)) (le_or a b)
-
 pub lowest : Order Low min
 lowest = record {
   same = le_refl;
@@ -44,7 +40,7 @@ lowest = record {
   anti = λ p q. le_antisymm p q;
   left = min-le_left;
   right = min-le_right;
-  one = λ a b. ⊎_elim (λ p. inl (omega arith)) (λ q. inr (omega arith)) (le_or a b);
+  one = λ a b. ⊎_elim (λ p. inl (omega arith)) (λ q. inr (omega arith)) (cases_lt a b);
 }
 
 pub highest : Order High max
@@ -54,7 +50,7 @@ highest = record {
   anti = λ p q. le_antisymm q p;
   left = le-max_left;
   right = le-max_right;
-  one = λ a b. ⊎_elim (λ p. inr (omega arith)) (λ q. inl (omega arith)) (le_or a b);
+  one = λ a b. ⊎_elim (λ p. inr (omega arith)) (λ q. inl (omega arith)) (cases_lt a b);
 }
 
 -- i lies from a to b, both ends among them; and p in a box

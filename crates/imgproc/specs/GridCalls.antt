@@ -1,11 +1,12 @@
 -- The contracts of the tile grid's calls: each call's refusals, its answer and the buffers that it leaves.
 -- Definitions only.
+use Rattle.std.specs.Prelude.{Result, Ok, Err}
 use Rattle.std.specs.Prelude.{ℕ, zero, suc, ◌+◌, ◌*◌, ◌/◌, ◌≡◌, Bool, true, not, ◌&&◌, ◌||◌, List, ltb, eqb, length, get_or, Float}
 use Rattle.std.specs.Float.Ieee.{lt}
 use Rattle.std.specs.Float.Ieee.Scale.{finite}
 use Rattle.image.specs.declared.Geometry.{Geometry}
 use Rattle.image.specs.declared.LumaError.TheVariants.{OutsidePicture}
-use Rattle.image.specs.Answers.{Answer, accepted, refused}
+use Rattle.image.specs.Answers.{Answer}
 use Rattle.image.specs.Layout.{side_limit}
 use Rattle.image.specs.Plane.{overwritten, picture}
 use Rattle.imgproc.specs.declared.ImgProcError.{ImgProcError}
@@ -15,36 +16,14 @@ use Rattle.imgproc.specs.declared.ImgProcError.TheVariants.{
   WorkspaceTooSmall,
   GridBufferTooSmall,
 }
-use Rattle.imgproc.specs.declared.Check.{Check}
-use Rattle.imgproc.specs.declared.Check.TheVariants.{Accepted, Refused}
 use Rattle.imgproc.specs.declared.grid.config.TileThresholdConfig.{TileThresholdConfig}
 use Rattle.imgproc.specs.declared.grid.config.TileThresholdMethod.{TileThresholdMethod}
 use Rattle.imgproc.specs.declared.grid.config.TileThresholdMethod.TheVariants.{Midrange, Sauvola}
+use Rattle.imgproc.specs.declared.grid.TileCounts.{TileCounts}
 use Rattle.imgproc.specs.declared.grid.queries.TileThresholdGrid.{TileThresholdGrid}
-use Rattle.imgproc.specs.declared.grid.Built.{Built}
-use Rattle.imgproc.specs.declared.grid.Built.TheVariants.{Tiles, Refused as Built-as-Refused}
-use Rattle.imgproc.specs.declared.grid.queries.TilePlace.{TilePlace}
-use Rattle.imgproc.specs.declared.grid.queries.TilePlace.TheVariants.{At, Refused as TilePlace-as-Refused}
-use Rattle.imgproc.specs.declared.grid.queries.TileThreshold.{TileThreshold}
-use Rattle.imgproc.specs.declared.grid.queries.TileThreshold.TheVariants.{
-  Value,
-  Refused as TileThreshold-as-Refused,
-}
-use Rattle.imgproc.specs.declared.grid.queries.TileSkip.{TileSkip}
-use Rattle.imgproc.specs.declared.grid.queries.TileSkip.TheVariants.{Is, Refused as TileSkip-as-Refused}
 use Rattle.imgproc.specs.Reach.{ceiling}
 use Rattle.imgproc.specs.Grid.{tiles_x_of, tiles_y_of, nought, thresholds, skips}
-use Rattle.imgproc.specs.Refusals.{
-  error_number,
-  Conditions,
-  first,
-  refused_if,
-  ◌then◌,
-  answer_by,
-  left_by,
-  Lent,
-  view_conditions,
-}
+use Rattle.imgproc.specs.Refusals.{Check, Conditions, first, refused_if, ◌then◌, answer_by, left_by, Lent, view_conditions}
 
 -- ---- build
 
@@ -103,16 +82,6 @@ abbrev pub skips_over : BuildLent → List ℕ
 skips_over lent =
     let g = lent.source in
     overwritten 0 (skips lent.settings g.width g.height (picture lent.src g)) lent.skips
-
--- the values of a build
-pub record TileCounts : Type 0 where
-  pub tiles_x : ℕ
-  pub tiles_y : ℕ
-
--- `Built` says the tile counts, or the number of the refusal
-abbrev pub built_answer : Built → Answer TileCounts
-built_answer (Tiles x y) = accepted (record { tiles_x = x; tiles_y = y })
-built_answer (Built-as-Refused e) = refused (error_number e)
 
 -- a build is refused for its layout; its settings, by a list of their own; its room
 abbrev pub build_conditions_by : Conditions → BuildLent → Conditions
@@ -190,16 +159,6 @@ unfoldable pub all_skipped : List ℕ → ℕ → ℕ → Bool
 all_skipped d i zero = true
 all_skipped d i (suc n) = all_skipped d i n && skipped d (i + n)
 
--- `TileThreshold` says the byte, or the number of the refusal
-abbrev pub tile_threshold_answer : TileThreshold → Answer ℕ
-tile_threshold_answer (Value v) = accepted v
-tile_threshold_answer (TileThreshold-as-Refused e) = refused (error_number e)
-
--- `TileSkip` says yes or no, or the number of the refusal
-abbrev pub tile_skip_answer : TileSkip → Answer Bool
-tile_skip_answer (Is b) = accepted b
-tile_skip_answer (TileSkip-as-Refused e) = refused (error_number e)
-
 -- the answers of the three queries: the stored threshold, the stored skip, and whether the whole tile row is skipped
 abbrev pub threshold_asked : TileThresholdGrid → List ℕ → ℕ → ℕ → Answer ℕ
 threshold_asked q d x y = answer_by (first (pixel_conditions q (length d) x y)) (get_or d (tile_of q x y) 0)
@@ -212,17 +171,15 @@ row_skip_asked q d y = answer_by (first (row_conditions q (length d) y)) (all_sk
 
 -- ---- inside: the place of a tile, or the refusal
 
-abbrev pub place_by : Check → ℕ → TilePlace
-place_by Accepted i = At i
-place_by (Refused e) i = TilePlace-as-Refused e
+abbrev pub Place : Type 0
+Place = Result ℕ ImgProcError
 
-abbrev pub pixel_place : TileThresholdGrid → ℕ → ℕ → ℕ → TilePlace
+abbrev pub place_by : Check → ℕ → Place
+place_by (Ok u) i = Ok i
+place_by (Err e) i = Err e
+
+abbrev pub pixel_place : TileThresholdGrid → ℕ → ℕ → ℕ → Place
 pixel_place q len x y = place_by (first (pixel_conditions q len x y)) (tile_of q x y)
 
-abbrev pub row_place : TileThresholdGrid → ℕ → ℕ → TilePlace
+abbrev pub row_place : TileThresholdGrid → ℕ → ℕ → Place
 row_place q len y = place_by (first (row_conditions q len y)) (tile_row_of q y)
-
--- the refusal of a place; a place that is there has none, and the first kind of a query stands in
-abbrev pub place_refusal : TilePlace → ImgProcError
-place_refusal (TilePlace-as-Refused e) = e
-place_refusal (At i) = InvalidConfiguration

@@ -46,7 +46,5 @@ pub mod Tallies
 pub mod Compared
 pub mod Sweeps
 pub mod Tables
-pub mod RootParts
 pub mod Tiles
-pub mod TileBytes
 pub mod ReadingSteps

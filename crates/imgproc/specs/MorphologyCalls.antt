@@ -1,12 +1,11 @@
 -- Document 01, parts 2 and 4: the four morphology calls; and, inside, what the parts of an accepted one ask and leave.
 -- Definitions only.
-use Rattle.std.specs.Prelude.{ℕ, ◌*◌, ◌^◌, ◌≤◌, ◌<◌, ◌≡◌, List, length}
+use Rattle.std.specs.Prelude.{ℕ, ◌*◌, ◌^◌, ◌≤◌, ◌<◌, ◌≡◌, List, length, Result, Ok, Err}
 use Rattle.image.specs.Answers.{Answer, accepted, refused}
 use Rattle.image.specs.Plane.{part}
 use Rattle.imgproc.specs.declared.morphology.Operation.{Operation}
 use Rattle.imgproc.specs.declared.morphology.Operation.TheVariants.{Erode, Dilate, Open, Close}
-use Rattle.imgproc.specs.declared.morphology.Compared.{Compared}
-use Rattle.imgproc.specs.declared.morphology.Compared.TheVariants.{Comparisons, Refused as Compared-as-Refused}
+use Rattle.imgproc.specs.declared.ImgProcError.{ImgProcError}
 use Rattle.imgproc.specs.declared.morphology.tally.Tally.{Tally}
 use Rattle.imgproc.specs.Tallies.{Raised, HasRoom, Stands}
 use Rattle.imgproc.specs.Reach.{sweep_walks, R}
@@ -35,10 +34,10 @@ operation_r Dilate k w h = R k w h
 operation_r Open k w h = 2 * R k w h
 operation_r Close k w h = 2 * R k w h
 
--- what `Compared` says: the comparisons, or the number of the refusal
-abbrev pub compared_answer : Compared → Answer ℕ
-compared_answer (Comparisons t) = accepted t.comparisons
-compared_answer (Compared-as-Refused e) = refused (error_number e)
+-- what a call says that counts: the comparisons, or the number of the refusal
+abbrev pub compared_answer : Result Tally ImgProcError → Answer ℕ
+compared_answer (Ok t) = accepted t.comparisons
+compared_answer (Err e) = refused (error_number e)
 
 -- a morphology call, whose settings are its kernel: its conditions, its comparisons and the picture that it makes
 abbrev pub morphology : Operation → Operator ℕ ℕ

@@ -7,8 +7,8 @@ use Rattle.imgproc.specs.declared.reading.config.ReadingConfig.{ReadingConfig}
 use Rattle.imgproc.specs.declared.reading.ReadingCounts.{ReadingCounts}
 use Rattle.imgproc.specs.declared.reading.judging.Judgement.{Judgement}
 use Rattle.imgproc.specs.declared.reading.judging.Judgement.TheVariants.{Dark, Light, Skipped}
-use Rattle.imgproc.specs.declared.reading.Read.{Read}
-use Rattle.imgproc.specs.declared.reading.Read.TheVariants.{Counts, Refused as Read-as-Refused}
+use Rattle.imgproc.specs.declared.ImgProcError.{ImgProcError}
+use Rattle.std.specs.Prelude.{Result, Ok, Err}
 use Rattle.imgproc.specs.declared.grid.config.TileThresholdConfig.{TileThresholdConfig}
 use Rattle.imgproc.specs.declared.ImgProcError.TheVariants.{InvalidKernel, WorkspaceTooSmall}
 use Rattle.imgproc.specs.declared.threshold.SauvolaConfig.{SauvolaConfig}
@@ -154,13 +154,13 @@ pub record ReadingLeft : Type 0 where
   pub bytes : List ℕ
   pub u64s : List ℕ
 
--- what `Read` says: the four numbers, or the number of the refusal
+-- what a reading says: the four numbers, or the number of the refusal
 abbrev pub numbers_of : ReadingCounts → ReadingNumbers
 numbers_of c = record { dark = c.dark; light = c.light; skipped = c.skipped; comparisons = c.tally.comparisons }
 
-abbrev pub read_answer : Read → Answer ReadingNumbers
-read_answer (Counts c) = accepted (numbers_of c)
-read_answer (Read-as-Refused e) = refused (error_number e)
+abbrev pub read_answer : Result ReadingCounts ImgProcError → Answer ReadingNumbers
+read_answer (Ok c) = accepted (numbers_of c)
+read_answer (Err e) = refused (error_number e)
 
 -- what a reading with settings that are checked by a list of their own is refused for: the layouts; 5; the settings;
 -- the workspaces

@@ -1,6 +1,7 @@
 -- What an accepted reading means, drawn from its contract alone: which pixels are judged dark, light and skipped, that
 -- each count is the number of just those pixels, and whose comparisons are reported. (ReadingLeaves: what it leaves;
 -- RefusedExactly: when it is refused.) Assumes nothing.
+use Rattle.std.specs.Prelude.{Ok}
 use Rattle.std.specs.Prelude.{ℕ, ◌+◌, ◌*◌, ◌/◌, ◌≤◌, ◌<◌, ◌≡◌, Bool, true, false, cond, ◌&&◌, ◌↔◌, List, leb, length}
 use Rattle.std.proofs.Common.{arith, sym, ap₂, ◌∙◌, leb-true, leb-false, le-leb}
 use Rattle.std.proofs.Math.Path.{refl, ap}
@@ -13,7 +14,6 @@ use Rattle.imgproc.specs.declared.reading.judging.Judgement.{Judgement}
 use Rattle.imgproc.specs.declared.reading.judging.Judgement.TheVariants.{Dark, Light, Skipped}
 use Rattle.imgproc.specs.declared.morphology.Operation.TheVariants.{Open, Close}
 use Rattle.imgproc.specs.declared.ImgProcError.TheVariants.{InvalidKernel}
-use Rattle.imgproc.specs.declared.Check.TheVariants.{Accepted}
 use Rattle.imgproc.specs.Reach.{R}
 use Rattle.imgproc.specs.Refusals.{
   Conditions,
@@ -159,14 +159,14 @@ module _ (a : AcceptedReading) where
   abbrev pub judged_here : ℕ → ℕ → Judgement
   judged_here x y = judged settings_of wide high source_of x y
 
-  pub said : (first (reading_conditions a.lent) ≡ Accepted) × (a.numbers ≡ numbers_from a.lent)
+  pub said : (first (reading_conditions a.lent) ≡ Ok tt) × (a.numbers ≡ numbers_from a.lent)
   said = taken (first (reading_conditions a.lent)) a.reads.answers
 
   -- the layouts and the sizes are accepted, and the settings
   abbrev pairs : Conditions
   pairs = pair_conditions (length a.lent.src) a.lent.source (length a.lent.dst) a.lent.target
 
-  parts : (first pairs ≡ Accepted) × (first (reading_settings settings_of) ≡ Accepted)
+  parts : (first pairs ≡ Ok tt) × (first (reading_settings settings_of) ≡ Ok tt)
   parts =
       let room = reading_room a.lent.source settings_of (length a.lent.bytes) (length a.lent.u64s) in
       let p = both_accepted pairs (reading_settings settings_of then room) said.0 in

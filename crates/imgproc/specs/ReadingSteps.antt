@@ -6,12 +6,14 @@ use Rattle.image.specs.Plane.{plane, painted_on, part, picture}
 use Rattle.imgproc.specs.declared.reading.config.ReadingConfig.{ReadingConfig}
 use Rattle.imgproc.specs.declared.reading.ReadingCounts.{ReadingCounts}
 use Rattle.imgproc.specs.declared.reading.judging.Judged.{Judged}
+use Rattle.imgproc.specs.declared.reading.judging.Judgement.{Judgement}
 use Rattle.imgproc.specs.declared.morphology.tally.Tally.{Tally}
 use Rattle.imgproc.specs.Tallies.{Raised, HasRoom}
+use Rattle.imgproc.specs.Fold.{bit}
 use Rattle.imgproc.specs.Reach.{walk, sweep_walks}
 use Rattle.imgproc.specs.Grid.{tiles_x_of, tiles_y_of, skips}
 use Rattle.imgproc.specs.Refusals.{table_entries}
-use Rattle.imgproc.specs.Tables.{InRange, Ready}
+use Rattle.imgproc.specs.Tables.{InRange, Tables}
 use Rattle.imgproc.specs.Calls.{Paired}
 use Rattle.imgproc.specs.Reading.{
   is_dark,
@@ -30,9 +32,11 @@ use Rattle.imgproc.specs.Reading.{
   marks_from,
 }
 
--- what `judge` goes by: the opened picture, packed, its skips as bytes, and its tables
+-- what a `Judge` goes by: the opened picture is packed, its tables and its tiles' skips stand in their slices, and the
+-- settings are accepted
 pub record JudgeReady (o : List ℕ) (g : Geometry) (sk ws : List ℕ) (at : ℕ) (s : ReadingConfig) : Type 0 where
-  pub tables : Ready (record { src = o; source = g; workspace = ws; at = at; settings = s.sauvola })
+  pub tables : Tables o g at ws
+  pub settings : InRange s.sauvola
   pub tight : g.stride ≡ g.width
   pub whole : length o ≡ g.width * g.height
   pub tile_width : 0 < s.grid.tile_width
@@ -45,6 +49,12 @@ pub record Room (j : Judged) (n : ℕ) : Type 0 where
   pub light : j.light + n < 2 ^ 64
   pub skipped : j.skipped + n < 2 ^ 64
 
+-- the counts after one judgement more
+pub record Counted (before : Judged) (j : Judgement) (after : Judged) : Type 0 where
+  pub dark : after.dark ≡ before.dark + bit (is_dark j)
+  pub light : after.light ≡ before.light + bit (is_light j)
+  pub skipped : after.skipped ≡ before.skipped + bit (is_skipped j)
+
 -- the first n pixels of row y of the opened picture o are judged: each has its byte, and each count is raised by the
 -- pixels so judged
 pub record PixelsJudged (before : Judged) (s : ReadingConfig) (g : Geometry) (o : List ℕ) (y n : ℕ)
@@ -54,7 +64,7 @@ pub record PixelsJudged (before : Judged) (s : ReadingConfig) (g : Geometry) (o 
   pub light : after.light ≡ before.light + walk (λ x. is_light (judged_over s g.width g.height o x y)) n
   pub skipped : after.skipped ≡ before.skipped + walk (λ x. is_skipped (judged_over s g.width g.height o x y)) n
 
--- what `judge_row` leaves: the whole row is judged
+-- what `Judge::row` leaves: the whole row is judged
 abbrev pub RowJudged : Judged → ReadingConfig → Geometry → List ℕ → ℕ → Judged → List ℕ → Type 0
 RowJudged before s g o y after out = PixelsJudged before s g o y g.width after out
 
@@ -73,8 +83,7 @@ pub record PictureJudged (s : ReadingConfig) (g : Geometry) (o dst : List ℕ) (
       j.skipped ≡ pixels g.width g.height (λ x y. is_skipped (judged_over s g.width g.height o x y))
 
 -- what `flatten_and_open` asks, and leaves: the opened picture in the first plane of the workspace
-pub record OpenReady (tally : Tally) (src : List ℕ) (g : Geometry) (s : ReadingConfig) (ws : List ℕ) : Type 0 where
-  pub from : Kept (length src) g
+pub record OpenReady (tally : Tally) (g : Geometry) (s : ReadingConfig) (ws : List ℕ) : Type 0 where
   pub element : 0 < s.division.structuring_element
   pub floor : 0 < s.division.denominator_floor
   pub kernel : 0 < s.opening_kernel

@@ -1,5 +1,6 @@
 -- What is refused, and with which number: each call has a list of conditions, and the first that fits counts.
 -- Definitions only.
+use Rattle.std.specs.Prelude.{Result, Ok, Err}
 use Rattle.std.specs.Prelude.{ℕ, ◌+◌, ◌*◌, ◌%◌, ◌≡◌, Bool, cond, not, ◌&&◌, ◌||◌, List, [], ◌∷◌, ◌++◌, ltb, eqb, length}
 use Rattle.image.specs.declared.Geometry.{Geometry}
 use Rattle.image.specs.declared.LumaError.{LumaError}
@@ -16,8 +17,6 @@ use Rattle.imgproc.specs.declared.ImgProcError.TheVariants.{
   WorkspaceTooSmall,
   GridBufferTooSmall,
 }
-use Rattle.imgproc.specs.declared.Check.{Check}
-use Rattle.imgproc.specs.declared.Check.TheVariants.{Accepted, Refused}
 
 -- the number of each refusal
 abbrev pub error_number : ImgProcError → ℕ
@@ -34,10 +33,14 @@ error_number GridBufferTooSmall = 10
 abbrev pub Conditions : Type 0
 Conditions = List (Condition ImgProcError)
 
+-- what a check says: go on, or why not
+abbrev pub Check : Type 0
+Check = Result Unit ImgProcError
+
 -- the first condition that fits refuses; where none does, the call is accepted
 unfoldable pub first : Conditions → Check
-first [] = Accepted
-first (c ∷ cs) = cond c.fits (Refused c.refusal) (first cs)
+first [] = Ok tt
+first (c ∷ cs) = cond c.fits (Err c.refusal) (first cs)
 
 -- one condition
 abbrev pub refused_if : Bool → ImgProcError → Conditions
@@ -52,18 +55,18 @@ a then b = a ++ b
 
 -- the answer: its values where it is accepted, else the number of the refusal
 abbrev pub answer_by : {A : Type 0} → Check → A → Answer A
-answer_by Accepted v = accepted v
-answer_by (Refused e) v = refused (error_number e)
+answer_by (Ok u) v = accepted v
+answer_by (Err e) v = refused (error_number e)
 
 -- a lent destination at exit: what an accepted call leaves there, or as it was
 abbrev pub left_by : Check → List ℕ → List ℕ → List ℕ
-left_by Accepted after before = after
-left_by (Refused e) after before = before
+left_by (Ok u) after before = after
+left_by (Err e) after before = before
 
 -- a lent workspace at exit: as it was where the call is refused, and else unspecified but for its length
 abbrev pub Lent : Check → List ℕ → List ℕ → Type 0
-Lent Accepted before after = length after ≡ length before
-Lent (Refused e) before after = after ≡ before
+Lent (Ok u) before after = length after ≡ length before
+Lent (Err e) before after = after ≡ before
 
 -- ---- the lists that calls share
 

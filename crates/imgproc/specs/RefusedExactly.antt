@@ -1,20 +1,19 @@
 -- When a call of this crate is refused: with n exactly when n is the number of the first condition of its list that
 -- fits, and then every lent buffer is as it was; accepted exactly when none fits. (FirstFits and Exactly are image's.)
 -- Assumes nothing.
+use Rattle.std.specs.Prelude.{Ok, Err}
 use Rattle.std.specs.Prelude.{ℕ, ◌≡◌, refl, Bool, true, false, cond, List, [], ◌∷◌, length, get_or}
 use Rattle.std.proofs.Common.{sym, ◌∙◌}
 use Rattle.image.specs.Answers.{Answer, refused, Condition, numbered, answer_to}
 use Rattle.image.specs.RefusedExactly.{Exactly, differ, exactly}
 use Rattle.imgproc.specs.declared.ImgProcError.{ImgProcError}
-use Rattle.imgproc.specs.declared.Check.{Check}
-use Rattle.imgproc.specs.declared.Check.TheVariants.{Accepted, Refused}
 use Rattle.imgproc.specs.declared.grid.queries.TileThresholdGrid.{TileThresholdGrid}
-use Rattle.imgproc.specs.Refusals.{error_number, Conditions, first, answer_by}
+use Rattle.imgproc.specs.Refusals.{Check, error_number, Conditions, first, answer_by}
 use Rattle.imgproc.specs.Calls.{Operator, Loan, Left, conditions_of, Serves}
+use Rattle.imgproc.specs.declared.grid.TileCounts.{TileCounts}
 use Rattle.imgproc.specs.GridCalls.{
   BuildLent,
   BuildLeft,
-  TileCounts,
   tiles_from,
   BuildsBy,
   pixel_conditions,
@@ -40,7 +39,7 @@ answer_is [] v = refl
 answer_is (c ∷ cs) v = step c.fits (answer_is cs v)
   where
     step : (f : Bool) → answer_by (first cs) v ≡ answer_to (numbers cs) v
-        → answer_by (cond f (Refused c.refusal) (first cs)) v
+        → answer_by (cond f (Err c.refusal) (first cs)) v
         ≡ cond f (refused (error_number c.refusal)) (answer_to (numbers cs) v)
     step true p = refl
     step false p = p
@@ -48,7 +47,7 @@ answer_is (c ∷ cs) v = step c.fits (answer_is cs v)
 -- a check that refuses
 record RefusedBy (c : Check) : Type 0 where
   kind : ImgProcError
-  is : c ≡ Refused kind
+  is : c ≡ Err kind
 
 module _ {A : Type 0} (values : A) where
   by_list : (cs : Conditions) {answer : Answer A} → answer ≡ answer_by (first cs) values
@@ -57,8 +56,8 @@ module _ {A : Type 0} (values : A) where
 
   -- a refused answer comes from a check that refuses
   refuses : (c : Check) {n : ℕ} → answer_by c values ≡ refused n → RefusedBy c
-  refuses Accepted p = absurd (differ values p)
-  refuses (Refused e) p = record { kind = e; is = refl }
+  refuses (Ok u) p = absurd (differ values p)
+  refuses (Err e) p = record { kind = e; is = refl }
 
 -- ---- erosion, dilation, opening, closing, division, Sauvola: every call from picture to picture
 module _ {S A : Type 0} {operator : Operator S A} {lent : Loan S} {answer : Answer A} {left : Left}

@@ -1,16 +1,14 @@
 -- Document 01, part 6: the whole-number threshold of a pixel, by direct summation over its window, and the contract of
 -- `sauvola_into`. Definitions only.
 use Rattle.std.specs.Prelude.{ℕ, ◌+◌, ◌-◌, ◌*◌, ◌/◌, Bool, cond, List, leb}
-use Rattle.image.specs.Answers.{Answer, accepted, refused, Bare, bare}
+use Rattle.image.specs.Answers.{Bare, bare}
 use Rattle.image.specs.Plane.{pixel, plane}
 use Rattle.imgproc.specs.declared.threshold.SauvolaConfig.{SauvolaConfig}
-use Rattle.imgproc.specs.declared.threshold.Binarized.{Binarized}
-use Rattle.imgproc.specs.declared.threshold.Binarized.TheVariants.{Done, Refused as Binarized-as-Refused}
 use Rattle.imgproc.specs.Fold.{Box, fold_box}
 use Rattle.imgproc.specs.Reach.{low, high}
 use Rattle.imgproc.specs.Sums.{sum, sum_squares, count}
 use Rattle.imgproc.specs.WholeRoot.{whole_root}
-use Rattle.imgproc.specs.Refusals.{error_number, settings_and_room}
+use Rattle.imgproc.specs.Refusals.{settings_and_room}
 use Rattle.imgproc.specs.Calls.{Operator}
 
 -- the Rust's defaults
@@ -63,11 +61,6 @@ verdict config w h p x y = cond (at_or_below config w h p x y) config.dark_value
 unfoldable pub binarized : SauvolaConfig → ℕ → ℕ → List ℕ → List ℕ
 unfolding verdict
 binarized config w h p = plane w h (verdict config w h p)
-
--- `Binarized` says a bare success, or the number of the refusal
-abbrev pub binarized_answer : Binarized → Answer Bare
-binarized_answer Done = accepted bare
-binarized_answer (Binarized-as-Refused e) = refused (error_number e)
 
 -- `sauvola_into`: its conditions, a bare success, and the verdicts
 abbrev pub sauvola : Operator SauvolaConfig Bare

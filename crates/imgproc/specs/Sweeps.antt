@@ -126,7 +126,15 @@ JoinPassed tally d p k least raised d' =
 
 -- a sweep in place reads the plane that it writes
 abbrev pub planes_in_place : Planes → Planes
-planes_in_place p = record { from = p.to; to = p.to; spare = p.spare; width = p.width; height = p.height }
+planes_in_place p = record p { from = p.to }
+
+-- the strip of n rows from row y on
+abbrev pub strip_of : Planes → ℕ → ℕ → Planes
+strip_of p y n = record p { from = p.from + y * p.width; to = p.to + y * p.width; height = n }
+
+-- rows that stand transposed in the scratch are lanes, with the rest of the scratch behind them
+abbrev pub transposed : Planes → Planes
+transposed p = record { from = p.spare; to = p.spare; spare = p.spare + area p; width = p.height; height = p.width }
 
 -- nothing but the plane at `to` and n numbers of scratch has changed
 abbrev pub Beside : ℕ → Planes → List ℕ → List ℕ → Type 0

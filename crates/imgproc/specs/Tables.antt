@@ -2,7 +2,7 @@
 -- part 6 ask and leave. Definitions only.
 use Rattle.std.specs.Prelude.{ℕ, ◌+◌, ◌-◌, ◌*◌, ◌/◌, ◌%◌, ◌≤◌, ◌<◌, ◌≡◌, List, length, get_or}
 use Rattle.image.specs.declared.Geometry.{Geometry}
-use Rattle.image.specs.Layout.{Kept, side_limit}
+use Rattle.image.specs.Layout.{side_limit}
 use Rattle.image.specs.Plane.{pixel, picture}
 use Rattle.imgproc.specs.declared.threshold.SauvolaConfig.{SauvolaConfig}
 use Rattle.imgproc.specs.Refusals.{table_entries}
@@ -28,9 +28,10 @@ pub record Both (f : ℕ → ℕ → ℕ) (w h base n : ℕ) (ws : List ℕ) : T
   pub squares : Holds ws (base + (w + 1) * (h + 1)) (squared f) (w + 1) n
   pub room : base + table_entries w h ≤ length ws
 
--- the first `rows` rows of both tables of a picture
-abbrev pub TableRows : List ℕ → Geometry → ℕ → ℕ → List ℕ → Type 0
-TableRows d g base rows ws = Both (pixels_of d g) g.width g.height base (rows * (g.width + 1)) ws
+-- the first `rows` rows of both tables of a picture, which sum bytes
+pub record TableRows (d : List ℕ) (g : Geometry) (base rows : ℕ) (ws : List ℕ) : Type 0 where
+  pub both : Both (pixels_of d g) g.width g.height base (rows * (g.width + 1)) ws
+  pub bytes : (x y : ℕ) → x < g.width → y + 1 < rows → pixels_of d g x y ≤ 255
 
 -- all of both tables of a picture
 abbrev pub Tables : List ℕ → Geometry → ℕ → List ℕ → Type 0
@@ -41,31 +42,6 @@ pub record InRange (config : SauvolaConfig) : Type 0 where
   pub radius_some : 0 < config.radius
   pub k_small : config.k_milli ≤ 1000
   pub range_some : 0 < config.dynamic_range
-
--- a picture, a workspace for its tables from `at` on, and the settings that judge it
-pub record Tabled : Type 0 where
-  pub src : List ℕ
-  pub source : Geometry
-  pub workspace : List ℕ
-  pub at : ℕ
-  pub settings : SauvolaConfig
-
--- the slice holds the picture, both tables stand in the workspace, and the settings are accepted
-pub record Ready (t : Tabled) : Type 0 where
-  pub layout : Kept (length t.src) t.source
-  pub tables : Tables t.src t.source t.at t.workspace
-  pub settings : InRange t.settings
-
--- `verdict_row` asks that y is a row of the picture, and that the row it writes has the picture's width
-pub record RowReady (t : Tabled) (y : ℕ) (out : List ℕ) : Type 0 where
-  pub ready : Ready t
-  pub inside : y < t.source.height
-  pub wide : length out ≡ t.source.width
-
--- `binarize_rows` asks that the destination lies in its slice, and has the picture's sides
-pub record RowsReady (t : Tabled) (dst : List ℕ) (target : Geometry) : Type 0 where
-  pub ready : Ready t
-  pub pair : Paired (length t.src) t.source (length dst) target
 
 -- `binarize` asks that both pictures lie in their slices with equal sides, that the settings are accepted, and that
 -- both tables have room

@@ -87,7 +87,8 @@ tile_entry at tx ws i j = entry ws (at + 5 * (j * tx) + 5 * i)
 -- a workspace that holds, from `at` on, the numbers of every tile of the picture f
 pub record Gathered (f : ℕ → ℕ → ℕ) (g : TileThresholdConfig) (w h at : ℕ) (ws : List ℕ) : Type 0 where
   pub room : at + 5 * (tiles_x_of g w * tiles_y_of g h) ≤ length ws
-  pub bytes : (x y : ℕ) → f x y < 256
+  pub bytes : (i j : ℕ) → i < tiles_x_of g w → j < tiles_y_of g h
+      → (tile_entry at (tiles_x_of g w) ws i j).maximum < 256
   pub each : (i j : ℕ) → i < tiles_x_of g w → j < tiles_y_of g h
       → tile_entry at (tiles_x_of g w) ws i j ≡ numbers_in f (tile g w h i j)
 
@@ -112,9 +113,8 @@ module _ (lent : GatherLent) where
   gather_end =
       lent.at + 5 * (tiles_x_of lent.settings lent.source.width * tiles_y_of lent.settings lent.source.height)
 
-  -- `gather` asks that the picture lies in the slice, that the tiles have sides, and that their numbers have room
+  -- `gather` asks that the picture and the tiles have sides, and that the tiles' numbers have room
   pub record GatherReady : Type 0 where
-    pub layout : Kept (length lent.src) lent.source
     pub sized : Sized lent.settings lent.source.width lent.source.height
     pub room : gather_end ≤ length lent.workspace
 
@@ -144,17 +144,11 @@ pub record Proper (n : TileNumbers) : Type 0 where
 abbrev pub joined_rows : ℕ → ℕ → List ℕ → ℕ → ℕ → ℕ → ℕ → TileNumbers
 joined_rows at tx ws from to first last = join_over (λ b. join_over (λ a. tile_entry at tx ws a b) from to) first last
 
--- the entries 0..to of a tile row that starts at `row` lie in the workspace, and entries a..b of them, joined, are
--- small
-pub record SmallRow (row to : ℕ) (ws : List ℕ) : Type 0 where
-  pub room : row + 5 * to + 5 ≤ length ws
-  pub each : (a b : ℕ) → a ≤ b → b ≤ to → Small (join_over (λ i. entry ws (row + 5 * i)) a b)
-
--- and so for all entries of a grid of tx by ty tiles: tiles a..b of the tile rows c..d, joined
-pub record SmallGrid (at tx ty : ℕ) (ws : List ℕ) : Type 0 where
+-- a workspace that holds, from `at` on, the entries of a grid of tx by ty tiles; those of any tiles a..b of the tile
+-- rows c..d, joined, are the numbers of as many bytes as a picture has
+pub record ProperGrid (at tx ty : ℕ) (ws : List ℕ) : Type 0 where
   pub room : at + 5 * (tx * ty) ≤ length ws
-  pub each : (a b c d : ℕ) → a ≤ b → b < tx → c ≤ d → d < ty → Small (joined_rows at tx ws a b c d)
-  pub down : ty ≤ side_limit
+  pub each : (a b c d : ℕ) → a ≤ b → b < tx → c ≤ d → d < ty → Proper (joined_rows at tx ws a b c d)
 
 -- the numbers of some picture
 pub record HoldsTiles (g : TileThresholdConfig) (w h at : ℕ) (ws : List ℕ) : Type 0 where
@@ -175,11 +169,13 @@ threshold_by g n =
 abbrev pub skip_by : TileThresholdConfig → TileNumbers → ℕ
 skip_by g n = bit (ltb (n.maximum - n.minimum) g.contrast_floor)
 
--- one number for each tile, tile row after tile row
+-- one number for each tile of a grid of tx by ty tiles, tile row after tile row, from the numbers around it
+abbrev pub bytes_around : (TileNumbers → ℕ) → ℕ → ℕ → ℕ → ℕ → List ℕ → List ℕ
+bytes_around by r tx ty at ws = tabulate (λ t. by (joined_around r tx ty at ws (t % tx) (t / tx))) (tx * ty)
+
+-- and for each tile of a picture of w by h pixels
 abbrev pub each_tile : (TileNumbers → ℕ) → TileThresholdConfig → ℕ → ℕ → ℕ → List ℕ → List ℕ
-each_tile by g w h at ws =
-    let around = joined_around g.neighborhood_radius (tiles_x_of g w) (tiles_y_of g h) at ws in
-    tabulate (λ t. by (around (t % tiles_x_of g w) (t / tiles_x_of g w))) (tiles_x_of g w * tiles_y_of g h)
+each_tile by g w h at ws = bytes_around by g.neighborhood_radius (tiles_x_of g w) (tiles_y_of g h) at ws
 
 -- ---- `fill` of a build
 

@@ -1,8 +1,9 @@
 -- The three walks of a line of n samples sum to 3n - 2⌈n/k⌉. Assumes nothing.
-use Rattle.std.specs.Prelude.{◌≡◌, Bool, true, false, not, ◌⊎◌, eqb}
+use Rattle.std.specs.Prelude.{◌≡◌, Bool, true, false, not, eqb}
 use Rattle.std.proofs.Math.Path.{refl}
-use Rattle.std.proofs.Common.{sym, ap, ◌∙◌, inl, inr, ⊎_elim, eq-or-lt_of_le, mod-lt, le-div_iff_mul-le, mul-le-mul_left, add-one}
+use Rattle.std.proofs.Common.{ap, ◌∙◌, ⊎_elim, mod-lt, le-div_iff_mul-le, mul-le-mul_left, add-one}
 use Prim.Native.Nat.{ℕ, zero, suc, ◌+◌, ◌-◌, ◌*◌, ◌/◌, ◌%◌, ◌≤◌, ◌<◌}
+use Rattle.std.proofs.lemmas.Bool.{cases_order}
 use Rattle.std.proofs.Math.Nat.{zero-mod, div-add-mod, div-eq_of_lt-le}
 use native.Mathlib.Omega.{arith}
 use borrow.Author.Tests.{eq-eqb, ne_eqb}
@@ -11,13 +12,7 @@ use Rattle.imgproc.specs.Reach.{walk, forward_at, backward_at, join_at, ceiling,
 
 -- compares two numbers, and goes on by their order
 pub cases : (a b : ℕ) {C : Type 0} → (a ≡ b → C) → (a < b → C) → (b < a → C) → C
-cases a b e l g =
-    ⊎_elim (λ p. ⊎_elim e l (eq-or-lt_of_le p)) (λ q. ⊎_elim (λ s. e (sym s)) g (eq-or-lt_of_le q)) (le_or a b)
-  where
-    le_or : (a b : ℕ) → (a ≤ b) ⊎ (b ≤ a)
-    le_or zero b = inl (omega arith)
-    le_or (suc a) zero = inr (omega arith)
-    le_or (suc a) (suc b) = ⊎_elim (λ p. inl (omega arith)) (λ q. inr (omega arith)) (le_or a b)
+cases a b e l g = ⊎_elim e (⊎_elim l g) (cases_order a b)
 
 -- i lies in the block that starts at k * q
 pub quotient : (k q i : ℕ) → k * q ≤ i → i < k * q + k → i / k ≡ q

@@ -3,27 +3,29 @@ pub(crate) mod base;
 pub(crate) mod bytes;
 pub mod config;
 pub mod queries;
+pub(crate) mod table;
 pub(crate) mod tiles;
 
-ghost use Rattle.std.specs.Prelude.{◌≡◌, ◌*◌, ◌≤◌, ◌<◌};
-ghost use Rattle.image.specs.Layout.{side_limit};
-ghost use Rattle.imgproc.specs.Refusals.{first, ◌then◌};
+ghost use Rattle.std.specs.Prelude.{◌≡◌, ◌*◌, ◌≤◌};
+ghost use Rattle.image.specs.Answers.{answered};
+ghost use Rattle.imgproc.specs.Refusals.{error_number, first, ◌then◌};
 ghost use Rattle.imgproc.specs.Grid.{tiles_limit};
-ghost use Rattle.imgproc.specs.GridCalls.{usable_method, grid_settings, tile_count, grid_room, Builds, built_answer};
+ghost use Rattle.imgproc.specs.GridCalls.{usable_method, grid_settings, tile_count, grid_room, Builds};
 ghost use Rattle.imgproc.specs.Tiles.{FillReady, Fills};
 
-use crate::grid::bytes::{write_skips, write_thresholds};
+use crate::ImgProcError;
+use crate::grid::bytes::{SkipRule, ThresholdRule, write_bytes};
+use crate::grid::table::TileTable;
 use crate::grid::tiles::{gather, tiles_along};
-use crate::{Check, ImgProcError};
 pub use config::{SauvolaFloats, TileThresholdConfig, TileThresholdMethod};
-use image::{Geometry, Layout};
-pub use queries::{TileSkip, TileThreshold, TileThresholdGrid};
+use image::{Geometry, Gray8View};
+pub use queries::TileThresholdGrid;
 
-// A build answers with the tile counts, or with its refusal.
-#[derive(Clone, Copy)]
-pub enum Built {
-    Tiles(usize, usize),
-    Refused(ImgProcError),
+// How many tiles a grid has in each row, and in each column.
+#[derive(Clone, Copy, PartialEq, Eq)]
+pub struct TileCounts {
+    pub tiles_x: usize,
+    pub tiles_y: usize,
 }
 
 // Accepts Midrange, and Sauvola with floats that are usable.
@@ -37,58 +39,49 @@ fn usable_method(method: TileThresholdMethod) -> bool
 }
 
 // Accepts or refuses the settings of a grid.
-pub(crate) fn check_settings(config: TileThresholdConfig) -> Check
+pub(crate) fn check_settings(config: TileThresholdConfig) -> Result<(), ImgProcError>
     ensures { result ≡ first (grid_settings config) }
 {
-    let method = config.method;
-    if config.tile_width == 0 {
-        return Check::Refused(ImgProcError::InvalidConfiguration);
+    if config.tile_width == 0 || config.tile_height == 0 || !usable_method(config.method) {
+        return Err(ImgProcError::InvalidConfiguration);
     }
-    if config.tile_height == 0 {
-        return Check::Refused(ImgProcError::InvalidConfiguration);
-    }
-    if usable_method(method) {
-        Check::Accepted
-    } else {
-        Check::Refused(ImgProcError::InvalidConfiguration)
-    }
+    Ok(())
 }
 
 // Accepts lent buffers that hold `count` tiles.
-fn check_room(count: usize, room: usize, threshold_room: usize, skip_room: usize) -> Check
+fn check_room(
+    count: usize,
+    room: usize,
+    threshold_room: usize,
+    skip_room: usize,
+) -> Result<(), ImgProcError>
     requires { count ≤ tiles_limit }
     ensures { result ≡ first (grid_room count room threshold_room skip_room) }
 {
     if room < 5 * count {
-        return Check::Refused(ImgProcError::WorkspaceTooSmall);
+        return Err(ImgProcError::WorkspaceTooSmall);
     }
-    if threshold_room < count {
-        return Check::Refused(ImgProcError::GridBufferTooSmall);
+    if threshold_room < count || skip_room < count {
+        return Err(ImgProcError::GridBufferTooSmall);
     }
-    if skip_room < count {
-        return Check::Refused(ImgProcError::GridBufferTooSmall);
-    }
-    Check::Accepted
+    Ok(())
 }
 
 // Accepts or refuses settings and buffers, for a picture whose layout is valid.
 fn check_build(
-    geometry: Geometry,
+    source: Gray8View<'_>,
     config: TileThresholdConfig,
     room: usize,
     threshold_room: usize,
     skip_room: usize,
-) -> Check
-    requires { (0 < geometry.width) × (geometry.width ≤ side_limit)
-        × (0 < geometry.height) × (geometry.height ≤ side_limit) }
-    ensures { result ≡ first
+) -> Result<(), ImgProcError>
+    ensures { let g = source.entry.geometry in
+        result ≡ first
         (grid_settings config then
-        grid_room (tile_count config geometry.width geometry.height) room threshold_room skip_room) }
+        grid_room (tile_count config g.width g.height) room threshold_room skip_room) }
 {
-    let settings = check_settings(config);
-    let Check::Accepted = settings else {
-        return settings;
-    };
+    let geometry = source.geometry;
+    check_settings(config)?;
     let tiles_x = tiles_along(geometry.width, config.tile_width);
     let tiles_y = tiles_along(geometry.height, config.tile_height);
     check_room(tiles_x * tiles_y, room, threshold_room, skip_room)
@@ -96,8 +89,7 @@ fn check_build(
 
 // Gathers the numbers of all tiles, and writes the thresholds and the skips from them.
 fn fill(
-    src: &[u8],
-    geometry: Geometry,
+    source: Gray8View<'_>,
     config: TileThresholdConfig,
     workspace: &mut [u64],
     thresholds: &mut [u8],
@@ -105,8 +97,8 @@ fn fill(
 )
     requires { FillReady
         (record {
-          src = src.now;
-          source = geometry;
+          src = source.pixels.now;
+          source = source.geometry;
           settings = config;
           workspace = workspace.old;
           thresholds = thresholds.old;
@@ -114,8 +106,8 @@ fn fill(
         }) }
     ensures { Fills
         (record {
-          src = src.now;
-          source = geometry;
+          src = source.entry.pixels.now;
+          source = source.entry.geometry;
           settings = config;
           workspace = workspace.old;
           thresholds = thresholds.old;
@@ -127,11 +119,10 @@ fn fill(
           skips = skips.new;
         }) }
 {
-    gather(src, geometry, config, workspace, 0);
-    let width = geometry.width;
-    let height = geometry.height;
-    write_thresholds(workspace, 0, width, height, config, thresholds, 0);
-    write_skips(workspace, 0, width, height, config, skips, 0);
+    gather(source, config, workspace, 0);
+    let table = TileTable::new(workspace, 0, source.geometry, config);
+    write_bytes(ThresholdRule(config), table, thresholds, 0);
+    write_bytes(SkipRule(config), table, skips, 0);
 }
 
 impl TileThresholdGrid {
@@ -143,7 +134,7 @@ impl TileThresholdGrid {
         workspace: &mut [u64],
         thresholds: &mut [u8],
         skips: &mut [u8],
-    ) -> Built
+    ) -> Result<TileCounts, ImgProcError>
         ensures { Builds
             (record {
               src = src.now;
@@ -153,25 +144,25 @@ impl TileThresholdGrid {
               thresholds = thresholds.old;
               skips = skips.old;
             })
-            (built_answer result)
+            (answered error_number result)
             (record {
               workspace = workspace.new;
               thresholds = thresholds.new;
               skips = skips.new;
             }) }
     {
-        let layout = image::validate_layout(src.len(), geometry);
-        let Layout::Valid(g) = layout else {
-            return Built::Refused(ImgProcError::Image(image::refusal(layout)));
-        };
-        let check = check_build(g, config, workspace.len(), thresholds.len(), skips.len());
-        if let Check::Refused(error) = check {
-            return Built::Refused(error);
-        }
-        fill(src, g, config, workspace, thresholds, skips);
-        Built::Tiles(
-            tiles_along(g.width, config.tile_width),
-            tiles_along(g.height, config.tile_height),
-        )
+        let source = Gray8View::new(src, geometry)?;
+        check_build(
+            source,
+            config,
+            workspace.len(),
+            thresholds.len(),
+            skips.len(),
+        )?;
+        fill(source, config, workspace, thresholds, skips);
+        Ok(TileCounts {
+            tiles_x: tiles_along(geometry.width, config.tile_width),
+            tiles_y: tiles_along(geometry.height, config.tile_height),
+        })
     }
 }

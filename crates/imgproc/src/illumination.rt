@@ -1,6 +1,6 @@
 // Divides a picture by its background, which is its own closing: that takes a smooth shade away.
-ghost use Rattle.std.specs.Prelude.{◌≡◌, ◌<◌};
-ghost use Rattle.imgproc.specs.Refusals.{first, division_settings};
+ghost use Rattle.std.specs.Prelude.{◌≡◌, ◌≤◌, ◌<◌};
+ghost use Rattle.imgproc.specs.Refusals.{first, division_settings, element_and_room};
 ghost use Rattle.imgproc.specs.Division.{
   division_defaults,
   quotient,
@@ -14,12 +14,12 @@ ghost use Rattle.imgproc.specs.Division.{
 ghost use Rattle.imgproc.specs.Calls.{Serves, Works};
 ghost use Rattle.imgproc.specs.MorphologyCalls.{compared_answer};
 
-use crate::morphology::Compared;
+use crate::ImgProcError;
 use crate::morphology::rect::close_rect_into;
 use crate::morphology::sweeps::Planes;
 use crate::morphology::tally::{Tally, start};
-use crate::{Check, ImgProcError};
-use image::{Geometry, Layout};
+use crate::pair::check_pair;
+use image::{Geometry, Gray8View};
 
 // The settings of a division.
 #[derive(Clone, Copy)]
@@ -29,11 +29,11 @@ pub struct BackgroundDivideConfig {
     pub denominator_floor: u8,
 }
 
-impl BackgroundDivideConfig {
-    // Gives the settings that the published Rust has by default.
-    pub fn default() -> Self
-        ensures { result ≡ division_defaults }
-    {
+// The settings that the published Rust has by default.
+impl Default for BackgroundDivideConfig {
+    ghost is_default = { λ c. c ≡ division_defaults };
+
+    fn default() -> Self {
         Self {
             structuring_element: 31,
             target_luma: 200,
@@ -47,15 +47,9 @@ fn divide(source: u8, background: u8, config: BackgroundDivideConfig) -> u8
     requires { 0 < config.denominator_floor }
     ensures { result ≡ quotient config source background }
 {
-    let floor = config.denominator_floor;
-    let target = config.target_luma;
-    let denominator = if background < floor {
-        floor
-    } else {
-        background
-    };
-    let value = source as u16 * target as u16 / denominator as u16;
-    if value < 255 { value as u8 } else { 255 }
+    let denominator = background.max(config.denominator_floor);
+    let value = source as u16 * config.target_luma as u16 / denominator as u16;
+    value.min(255) as u8
 }
 
 // Replaces each background of the packed plane at `at` by the quotient of its pixel in the packed plane at `from`.
@@ -69,32 +63,29 @@ pub(crate) fn divide_plane(
     requires { PlaneReady config from at count workspace.old }
     ensures { PlaneDivided config from at count workspace.old workspace.new }
 {
-    let mut i = 0;
-    while i < count {
+    for i in 0..count {
         workspace[at + i] = divide(workspace[from + i], workspace[at + i], config);
-        i += 1;
     }
 }
 
 // Packs the picture into the first plane of the workspace, and closes and divides it in the second.
 pub(crate) fn flatten(
     tally: Tally,
-    src: &[u8],
-    geometry: Geometry,
+    source: Gray8View<'_>,
     config: BackgroundDivideConfig,
     workspace: &mut [u8],
 ) -> Tally
-    requires { FlattenReady tally src.now geometry config workspace.old }
-    ensures { Flattened tally src.now geometry config workspace.old
+    requires { FlattenReady tally source.geometry config workspace.old }
+    ensures { Flattened tally source.entry.pixels.now source.entry.geometry config workspace.old
         result
         workspace.new }
 {
-    let width = geometry.width;
-    let height = geometry.height;
+    let width = source.geometry.width;
+    let height = source.geometry.height;
     let plane = width * height;
     let spare = 2 * plane;
     let element = config.structuring_element;
-    let _packed = image::pack(src, geometry, workspace, 0);
+    let _ = source.pack(workspace, 0);
     let planes = Planes {
         from: 0,
         to: plane,
@@ -109,8 +100,7 @@ pub(crate) fn flatten(
 
 // Does the work of an accepted call: one tally, started at 0, goes through the closing.
 fn divide_picture(
-    src: &[u8],
-    src_geometry: Geometry,
+    source: Gray8View<'_>,
     dst: &mut [u8],
     dst_geometry: Geometry,
     config: BackgroundDivideConfig,
@@ -118,8 +108,8 @@ fn divide_picture(
 ) -> Tally
     requires { DivideReady
         (record {
-          src = src.now;
-          source = src_geometry;
+          src = source.pixels.now;
+          source = source.geometry;
           dst = dst.old;
           target = dst_geometry;
           settings = config;
@@ -127,8 +117,8 @@ fn divide_picture(
         }) }
     ensures { Works division
         (record {
-          src = src.now;
-          source = src_geometry;
+          src = source.entry.pixels.now;
+          source = source.entry.geometry;
           dst = dst.old;
           target = dst_geometry;
           settings = config;
@@ -137,26 +127,37 @@ fn divide_picture(
         result
         (record { dst = dst.new; workspace = workspace.new }) }
 {
-    let plane = src_geometry.width * src_geometry.height;
-    let tally = flatten(start(), src, src_geometry, config, workspace);
-    let _painted = image::unpack(workspace, plane, dst, dst_geometry);
+    let plane = source.geometry.width * source.geometry.height;
+    let tally = flatten(start(), source, config, workspace);
+    let _ = image::unpack(workspace, plane, dst, dst_geometry);
     tally
 }
 
 // Accepts settings that are in range: a bad element is 7 here, and not a bad kernel.
-pub(crate) fn check_settings(config: BackgroundDivideConfig) -> Check
+pub(crate) fn check_settings(config: BackgroundDivideConfig) -> Result<(), ImgProcError>
     ensures { result ≡ first (division_settings config) }
 {
-    if config.structuring_element < 3 {
-        return Check::Refused(ImgProcError::InvalidConfiguration);
+    let element = config.structuring_element;
+    if element < 3 || element % 2 == 0 || config.denominator_floor == 0 {
+        return Err(ImgProcError::InvalidConfiguration);
     }
-    if config.structuring_element % 2 == 0 {
-        return Check::Refused(ImgProcError::InvalidConfiguration);
+    Ok(())
+}
+
+// Accepts settings in range, and then a workspace of seven planes.
+fn check_division(
+    config: BackgroundDivideConfig,
+    source: Gray8View<'_>,
+    room: usize,
+) -> Result<(), ImgProcError>
+    ensures { result ≡ first (element_and_room config source.entry.geometry room) }
+{
+    let geometry = source.geometry;
+    check_settings(config)?;
+    if room < 7 * (geometry.width * geometry.height) {
+        return Err(ImgProcError::WorkspaceTooSmall);
     }
-    if config.denominator_floor == 0 {
-        return Check::Refused(ImgProcError::InvalidConfiguration);
-    }
-    Check::Accepted
+    Ok(())
 }
 
 // Divides a picture by its closing into the rows of the destination.
@@ -167,7 +168,7 @@ pub fn background_divide_into(
     dst_geometry: Geometry,
     config: BackgroundDivideConfig,
     workspace: &mut [u8],
-) -> Compared
+) -> Result<Tally, ImgProcError>
     ensures { Serves division
         (record {
           src = src.now;
@@ -180,26 +181,7 @@ pub fn background_divide_into(
         (compared_answer result)
         (record { dst = dst.new; workspace = workspace.new }) }
 {
-    let layout = image::validate_layout(src.len(), src_geometry);
-    let Layout::Valid(g) = layout else {
-        return Compared::Refused(ImgProcError::Image(image::refusal(layout)));
-    };
-    let target = image::validate_layout(dst.len(), dst_geometry);
-    let Layout::Valid(h) = target else {
-        return Compared::Refused(ImgProcError::Image(image::refusal(target)));
-    };
-    if g.width != h.width {
-        return Compared::Refused(ImgProcError::DimensionMismatch);
-    }
-    if g.height != h.height {
-        return Compared::Refused(ImgProcError::DimensionMismatch);
-    }
-    let settings = check_settings(config);
-    if let Check::Refused(error) = settings {
-        return Compared::Refused(error);
-    }
-    if workspace.len() < 7 * (g.width * g.height) {
-        return Compared::Refused(ImgProcError::WorkspaceTooSmall);
-    }
-    Compared::Comparisons(divide_picture(src, g, dst, h, config, workspace))
+    let source = check_pair(src, src_geometry, dst.len(), dst_geometry)?;
+    check_division(config, source, workspace.len())?;
+    Ok(divide_picture(source, dst, dst_geometry, config, workspace))
 }

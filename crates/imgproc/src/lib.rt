@@ -4,17 +4,20 @@
 pub mod grid;
 pub mod illumination;
 pub mod morphology;
+mod pair;
 mod reach;
 pub mod reading;
 pub mod root;
 pub mod threshold;
 
 ghost use Rattle.std.specs.Prelude.{◌≡◌};
+ghost use Rattle.imgproc.specs.declared.ImgProcError.TheVariants.{Image};
 ghost use Rattle.imgproc.specs.Refusals.{error_number};
 
-use image::{Layout, LumaError};
+use image::{LumaError, Refusal};
 
-#[derive(Clone, Copy)]
+// Why a call is refused.
+#[derive(Clone, Copy, PartialEq, Eq)]
 pub enum ImgProcError {
     Image(LumaError),
     DimensionMismatch,
@@ -24,23 +27,25 @@ pub enum ImgProcError {
     GridBufferTooSmall,
 }
 
-// Says whether a call goes on, or why not.
-#[derive(Clone, Copy)]
-pub enum Check {
-    Accepted,
-    Refused(ImgProcError),
+impl From<LumaError> for ImgProcError {
+    ghost from_gives = { λ e r. r ≡ Image e };
+
+    fn from(error: LumaError) -> ImgProcError {
+        ImgProcError::Image(error)
+    }
 }
 
-// Gives the number of a refusal.
-pub fn number(error: ImgProcError) -> u32
-    ensures { result ≡ error_number error }
-{
-    match error {
-        ImgProcError::Image(luma) => image::number(luma),
-        ImgProcError::DimensionMismatch => 5,
-        ImgProcError::InvalidKernel => 6,
-        ImgProcError::InvalidConfiguration => 7,
-        ImgProcError::WorkspaceTooSmall => 8,
-        ImgProcError::GridBufferTooSmall => 10,
+impl Refusal for ImgProcError {
+    ghost number_of = { error_number };
+
+    fn number(self) -> u32 {
+        match self {
+            ImgProcError::Image(error) => error.number(),
+            ImgProcError::DimensionMismatch => 5,
+            ImgProcError::InvalidKernel => 6,
+            ImgProcError::InvalidConfiguration => 7,
+            ImgProcError::WorkspaceTooSmall => 8,
+            ImgProcError::GridBufferTooSmall => 10,
+        }
     }
 }

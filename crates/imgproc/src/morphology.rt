@@ -4,6 +4,8 @@ pub(crate) mod rect;
 pub(crate) mod sweeps;
 pub mod tally;
 
+ghost use Rattle.std.specs.Prelude.{◌≡◌};
+ghost use Rattle.imgproc.specs.Refusals.{first, kernel_and_room};
 ghost use Rattle.imgproc.specs.MorphologyCalls.{OperateReady, Operated, CountReady, Counts, RunReady};
 ghost use Rattle.imgproc.specs.MorphologyCalls.{compared_answer, morphology, erosion, dilation, opening, closing};
 ghost use Rattle.imgproc.specs.Calls.{Serves, Works};
@@ -12,21 +14,16 @@ use crate::ImgProcError;
 use crate::morphology::rect::{close_rect_into, morph_rect_into, open_rect_into};
 use crate::morphology::sweeps::Planes;
 use crate::morphology::tally::{Tally, start};
-use image::{Geometry, Layout};
+use crate::pair::check_pair;
+use image::{Geometry, Gray8View};
 
+// The four operations. The contracts are by cases of this enum: of a closure in its place they could say its `post` alone.
 #[derive(Clone, Copy)]
 enum Operation {
     Erode,
     Dilate,
     Open,
     Close,
-}
-
-// What a call answers: the tally of the comparisons that it made, or its refusal.
-#[derive(Clone, Copy)]
-pub enum Compared {
-    Comparisons(Tally),
-    Refused(ImgProcError),
 }
 
 // Operates on the first plane of the workspace, and leaves the picture in the second.
@@ -51,8 +48,8 @@ fn operate(
         height,
     };
     match operation {
-        Operation::Erode => morph_rect_into(tally, ws, planes, kernel, kernel, true),
-        Operation::Dilate => morph_rect_into(tally, ws, planes, kernel, kernel, false),
+        Operation::Erode => morph_rect_into::<true>(tally, ws, planes, kernel, kernel),
+        Operation::Dilate => morph_rect_into::<false>(tally, ws, planes, kernel, kernel),
         Operation::Open => open_rect_into(tally, ws, planes, kernel),
         Operation::Close => close_rect_into(tally, ws, planes, kernel),
     }
@@ -68,8 +65,7 @@ fn count(ws: &mut [u8], kernel: usize, width: usize, height: usize, operation: O
 
 // Does the work of an accepted call: packs the source, operates on it and paints the destination.
 fn run(
-    src: &[u8],
-    src_geometry: Geometry,
+    source: Gray8View<'_>,
     dst: &mut [u8],
     dst_geometry: Geometry,
     kernel: usize,
@@ -78,8 +74,8 @@ fn run(
 ) -> Tally
     requires { RunReady
         (record {
-          src = src.now;
-          source = src_geometry;
+          src = source.pixels.now;
+          source = source.geometry;
           dst = dst.old;
           target = dst_geometry;
           settings = kernel;
@@ -87,8 +83,8 @@ fn run(
         }) }
     ensures { Works (morphology operation)
         (record {
-          src = src.now;
-          source = src_geometry;
+          src = source.entry.pixels.now;
+          source = source.entry.geometry;
           dst = dst.old;
           target = dst_geometry;
           settings = kernel;
@@ -97,12 +93,26 @@ fn run(
         result
         (record { dst = dst.new; workspace = workspace.new }) }
 {
-    let width = src_geometry.width;
-    let height = src_geometry.height;
-    let _packed = image::pack(src, src_geometry, workspace, 0);
+    let width = source.geometry.width;
+    let height = source.geometry.height;
+    let _ = source.pack(workspace, 0);
     let tally = count(workspace, kernel, width, height, operation);
-    let _painted = image::unpack(workspace, width * height, dst, dst_geometry);
+    let _ = image::unpack(workspace, width * height, dst, dst_geometry);
     tally
+}
+
+// Accepts a kernel that is odd and 3 at least, and then a workspace of six planes.
+fn check_kernel(kernel: usize, source: Gray8View<'_>, room: usize) -> Result<(), ImgProcError>
+    ensures { result ≡ first (kernel_and_room kernel source.entry.geometry room) }
+{
+    let geometry = source.geometry;
+    if kernel < 3 || kernel % 2 == 0 {
+        return Err(ImgProcError::InvalidKernel);
+    }
+    if room < 6 * (geometry.width * geometry.height) {
+        return Err(ImgProcError::WorkspaceTooSmall);
+    }
+    Ok(())
 }
 
 // Refuses a call by its conditions, in order, and else does its work.
@@ -114,7 +124,7 @@ fn apply_into(
     kernel_size: usize,
     operation: Operation,
     workspace: &mut [u8],
-) -> Compared
+) -> Result<Tally, ImgProcError>
     ensures { Serves (morphology operation)
         (record {
           src = src.now;
@@ -127,31 +137,12 @@ fn apply_into(
         (compared_answer result)
         (record { dst = dst.new; workspace = workspace.new }) }
 {
-    let layout = image::validate_layout(src.len(), src_geometry);
-    let Layout::Valid(g) = layout else {
-        return Compared::Refused(ImgProcError::Image(image::refusal(layout)));
-    };
-    let target = image::validate_layout(dst.len(), dst_geometry);
-    let Layout::Valid(h) = target else {
-        return Compared::Refused(ImgProcError::Image(image::refusal(target)));
-    };
-    if g.width != h.width {
-        return Compared::Refused(ImgProcError::DimensionMismatch);
-    }
-    if g.height != h.height {
-        return Compared::Refused(ImgProcError::DimensionMismatch);
-    }
-    if kernel_size < 3 {
-        return Compared::Refused(ImgProcError::InvalidKernel);
-    }
-    if kernel_size % 2 == 0 {
-        return Compared::Refused(ImgProcError::InvalidKernel);
-    }
-    if workspace.len() < 6 * (g.width * g.height) {
-        return Compared::Refused(ImgProcError::WorkspaceTooSmall);
-    }
-    Compared::Comparisons(run(src, g, dst, h, kernel_size, operation, workspace))
+    let source = check_pair(src, src_geometry, dst.len(), dst_geometry)?;
+    check_kernel(kernel_size, source, workspace.len())?;
+    Ok(run(source, dst, dst_geometry, kernel_size, operation, workspace))
 }
+
+// The four calls differ in their operation alone. They keep the Rust's four names, which the exports to C repeat.
 
 // Erodes: takes the minimum over each reach.
 pub fn grayscale_erode_into(
@@ -161,7 +152,7 @@ pub fn grayscale_erode_into(
     dst_geometry: Geometry,
     kernel_size: usize,
     workspace: &mut [u8],
-) -> Compared
+) -> Result<Tally, ImgProcError>
     ensures { Serves erosion
         (record {
           src = src.now;
@@ -193,7 +184,7 @@ pub fn grayscale_dilate_into(
     dst_geometry: Geometry,
     kernel_size: usize,
     workspace: &mut [u8],
-) -> Compared
+) -> Result<Tally, ImgProcError>
     ensures { Serves dilation
         (record {
           src = src.now;
@@ -225,7 +216,7 @@ pub fn grayscale_open_into(
     dst_geometry: Geometry,
     kernel_size: usize,
     workspace: &mut [u8],
-) -> Compared
+) -> Result<Tally, ImgProcError>
     ensures { Serves opening
         (record {
           src = src.now;
@@ -257,7 +248,7 @@ pub fn grayscale_close_into(
     dst_geometry: Geometry,
     kernel_size: usize,
     workspace: &mut [u8],
-) -> Compared
+) -> Result<Tally, ImgProcError>
     ensures { Serves closing
         (record {
           src = src.now;

@@ -6,13 +6,13 @@ ghost use Rattle.imgproc.specs.Reach.{low, high};
 pub(crate) fn low(i: usize, r: usize) -> usize
     ensures { result ≡ low r i }
 {
-    if i < r { 0 } else { i - r }
+    i.saturating_sub(r)
 }
 
-// high = min(i + r, n - 1). A radius may be any number, so r is added only where it is known to be small.
+// high = min(i + r, n - 1). A radius may be any number, so the sum saturates.
 pub(crate) fn high(i: usize, r: usize, n: usize) -> usize
     requires { i < n }
     ensures { result ≡ high r n i }
 {
-    if r < n - i { i + r } else { n - 1 }
+    i.saturating_add(r).min(n - 1)
 }

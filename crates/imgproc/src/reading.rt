@@ -9,16 +9,18 @@ ghost use Rattle.imgproc.specs.Reading.{Reads, read_answer, reading_settings, re
 ghost use Rattle.imgproc.specs.Refusals.{first};
 ghost use Rattle.imgproc.specs.ReadingSteps.{ReadReady, ReadDone, OpenReady, Opened, MarkReady, Marks};
 
-use crate::grid::bytes::write_skips;
+use crate::ImgProcError;
+use crate::grid::bytes::{SkipRule, write_bytes};
+use crate::grid::table::TileTable;
 use crate::grid::tiles::{gather, tiles_along};
 use crate::illumination::flatten;
 use crate::morphology::rect::open_rect_into;
 use crate::morphology::sweeps::Planes;
 use crate::morphology::tally::{Tally, start};
+use crate::pair::check_pair;
 use crate::reading::judging::judge_picture;
-use crate::{Check, ImgProcError};
 pub use config::ReadingConfig;
-use image::{Geometry, Layout};
+use image::{Geometry, Gray8View};
 
 // A reading's byte workspace begins with this many planes of width × height bytes; the tiles' skips follow them.
 pub const PLANES: usize = 9;
@@ -32,31 +34,23 @@ pub struct ReadingCounts {
     pub tally: Tally,
 }
 
-// What a reading answers: its four counts, or its refusal.
-#[derive(Clone, Copy)]
-pub enum Read {
-    Counts(ReadingCounts),
-    Refused(ImgProcError),
-}
-
 // Flattens the picture in the second plane of the workspace, and opens it into the first.
 fn flatten_and_open(
     tally: Tally,
-    src: &[u8],
-    geometry: Geometry,
+    source: Gray8View<'_>,
     config: ReadingConfig,
     bytes: &mut [u8],
 ) -> Tally
-    requires { OpenReady tally src.now geometry config bytes.old }
-    ensures { Opened tally src.now geometry config bytes.old result bytes.new }
+    requires { OpenReady tally source.geometry config bytes.old }
+    ensures { Opened tally source.entry.pixels.now source.entry.geometry config bytes.old result bytes.new }
 {
-    let width = geometry.width;
-    let height = geometry.height;
+    let width = source.geometry.width;
+    let height = source.geometry.height;
     let plane = width * height;
     let spare = 2 * plane;
     let kernel = config.opening_kernel;
     let division = config.division;
-    let raised = flatten(tally, src, geometry, division, bytes);
+    let raised = flatten(tally, source, division, bytes);
     let planes = Planes {
         from: plane,
         to: 0,
@@ -82,18 +76,20 @@ fn mark_tiles(
         bytes.new
         u64s.new }
 {
-    let width = packed.width;
-    let height = packed.height;
-    let plane = width * height;
+    let plane = packed.width * packed.height;
     let grid = config.grid;
-    gather(&bytes[..plane], packed, grid, u64s, 0);
-    write_skips(u64s, 0, width, height, grid, bytes, marks);
+    let opened = Gray8View {
+        pixels: &bytes[..plane],
+        geometry: packed,
+    };
+    gather(opened, grid, u64s, 0);
+    let table = TileTable::new(u64s, 0, packed, grid);
+    write_bytes(SkipRule(grid), table, bytes, marks);
 }
 
 // Does the work of an accepted reading: one tally, started at 0, goes through the closing and the opening.
 fn read_picture(
-    src: &[u8],
-    src_geometry: Geometry,
+    source: Gray8View<'_>,
     dst: &mut [u8],
     dst_geometry: Geometry,
     config: ReadingConfig,
@@ -102,8 +98,8 @@ fn read_picture(
 ) -> ReadingCounts
     requires { ReadReady
         (record {
-          src = src.now;
-          source = src_geometry;
+          src = source.pixels.now;
+          source = source.geometry;
           dst = dst.old;
           target = dst_geometry;
           settings = config;
@@ -112,8 +108,8 @@ fn read_picture(
         }) }
     ensures { ReadDone
         (record {
-          src = src.now;
-          source = src_geometry;
+          src = source.entry.pixels.now;
+          source = source.entry.geometry;
           dst = dst.old;
           target = dst_geometry;
           settings = config;
@@ -123,13 +119,15 @@ fn read_picture(
         result
         (record { dst = dst.new; bytes = bytes.new; u64s = u64s.new }) }
 {
+    let width = source.geometry.width;
+    let height = source.geometry.height;
     let packed = Geometry {
-        width: src_geometry.width,
-        height: src_geometry.height,
-        stride: src_geometry.width,
+        width,
+        height,
+        stride: width,
     };
-    let marks = PLANES * (src_geometry.width * src_geometry.height);
-    let tally = flatten_and_open(start(), src, src_geometry, config, bytes);
+    let marks = PLANES * (width * height);
+    let tally = flatten_and_open(start(), source, config, bytes);
     mark_tiles(packed, config, bytes, marks, u64s);
     let judged = judge_picture(packed, config, bytes, marks, u64s, dst, dst_geometry);
     ReadingCounts {
@@ -141,23 +139,14 @@ fn read_picture(
 }
 
 // Checks the settings: the division's, the opening's kernel, the grid's, the threshold's.
-pub(crate) fn check_settings(config: ReadingConfig) -> Check
+pub(crate) fn check_settings(config: ReadingConfig) -> Result<(), ImgProcError>
     ensures { result ≡ first (reading_settings config) }
 {
-    let division = crate::illumination::check_settings(config.division);
-    let Check::Accepted = division else {
-        return division;
-    };
-    if config.opening_kernel < 3 {
-        return Check::Refused(ImgProcError::InvalidKernel);
+    crate::illumination::check_settings(config.division)?;
+    if config.opening_kernel < 3 || config.opening_kernel % 2 == 0 {
+        return Err(ImgProcError::InvalidKernel);
     }
-    if config.opening_kernel % 2 == 0 {
-        return Check::Refused(ImgProcError::InvalidKernel);
-    }
-    let grid = crate::grid::check_settings(config.grid);
-    let Check::Accepted = grid else {
-        return grid;
-    };
+    crate::grid::check_settings(config.grid)?;
     crate::threshold::check_settings(config.sauvola)
 }
 
@@ -167,7 +156,7 @@ pub(crate) fn check_room(
     config: ReadingConfig,
     bytes: usize,
     u64s: usize,
-) -> Check
+) -> Result<(), ImgProcError>
     requires { Sized config.grid geometry.width geometry.height }
     ensures { result ≡ first (reading_room geometry config bytes u64s) }
 {
@@ -175,13 +164,12 @@ pub(crate) fn check_room(
     let width = geometry.width;
     let height = geometry.height;
     let count = tiles_along(width, grid.tile_width) * tiles_along(height, grid.tile_height);
-    if bytes < PLANES * (width * height) + 2 * count {
-        return Check::Refused(ImgProcError::WorkspaceTooSmall);
+    if bytes < PLANES * (width * height) + 2 * count
+        || u64s < 2 * ((width + 1) * (height + 1)) + 5 * count
+    {
+        return Err(ImgProcError::WorkspaceTooSmall);
     }
-    if u64s < 2 * ((width + 1) * (height + 1)) + 5 * count {
-        return Check::Refused(ImgProcError::WorkspaceTooSmall);
-    }
-    Check::Accepted
+    Ok(())
 }
 
 // Reads a picture: judges every pixel, marks the rows of the destination and counts.
@@ -193,7 +181,7 @@ pub fn reading(
     config: ReadingConfig,
     bytes: &mut [u8],
     u64s: &mut [u64],
-) -> Read
+) -> Result<ReadingCounts, ImgProcError>
     ensures { Reads
         (record {
           src = src.now;
@@ -207,27 +195,8 @@ pub fn reading(
         (read_answer result)
         (record { dst = dst.new; bytes = bytes.new; u64s = u64s.new }) }
 {
-    let layout = image::validate_layout(src.len(), src_geometry);
-    let Layout::Valid(g) = layout else {
-        return Read::Refused(ImgProcError::Image(image::refusal(layout)));
-    };
-    let target = image::validate_layout(dst.len(), dst_geometry);
-    let Layout::Valid(h) = target else {
-        return Read::Refused(ImgProcError::Image(image::refusal(target)));
-    };
-    if g.width != h.width {
-        return Read::Refused(ImgProcError::DimensionMismatch);
-    }
-    if g.height != h.height {
-        return Read::Refused(ImgProcError::DimensionMismatch);
-    }
-    let settings = check_settings(config);
-    if let Check::Refused(error) = settings {
-        return Read::Refused(error);
-    }
-    let room = check_room(g, config, bytes.len(), u64s.len());
-    if let Check::Refused(error) = room {
-        return Read::Refused(error);
-    }
-    Read::Counts(read_picture(src, g, dst, h, config, bytes, u64s))
+    let source = check_pair(src, src_geometry, dst.len(), dst_geometry)?;
+    check_settings(config)?;
+    check_room(src_geometry, config, bytes.len(), u64s.len())?;
+    Ok(read_picture(source, dst, dst_geometry, config, bytes, u64s))
 }

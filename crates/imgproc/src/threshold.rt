@@ -1,15 +1,15 @@
 // Binarizes by Sauvola's local threshold (Sauvola and Pietikäinen 2000) in whole numbers, from summed-area tables.
 pub(crate) mod tables;
 
-ghost use Rattle.std.specs.Prelude.{◌≡◌, ℕ, ◌≤◌, ◌<◌, get_or};
-ghost use Rattle.image.specs.Layout.{side_limit};
+ghost use Rattle.std.specs.Prelude.{◌≡◌, ℕ, ◌≤◌, ◌<◌, length, get_or};
+ghost use Rattle.image.specs.Layout.{Kept};
 ghost use Rattle.image.specs.Plane.{picture, painted_on};
-ghost use Rattle.imgproc.specs.Refusals.{first, sauvola_settings, settings_and_room};
+ghost use Rattle.imgproc.specs.Refusals.{error_number, first, sauvola_settings, settings_and_room};
 ghost use Rattle.imgproc.specs.WholeRoot.{whole_root};
-ghost use Rattle.imgproc.specs.Tables.{InRange, Ready, RowReady, RowsReady, BinarizeReady, Sane};
+ghost use Rattle.imgproc.specs.Tables.{InRange, Tables, BinarizeReady, Sane};
 ghost use Rattle.imgproc.specs.Sauvola.{
   sauvola_defaults,
-  binarized_answer,
+  mean,
   spread,
   threshold,
   threshold_at_pixel,
@@ -18,11 +18,12 @@ ghost use Rattle.imgproc.specs.Sauvola.{
   sauvola,
 };
 ghost use Rattle.imgproc.specs.Calls.{Serves};
-ghost use Rattle.image.specs.Answers.{answer_number};
+ghost use Rattle.image.specs.Answers.{answered};
 
+use crate::pair::check_pair;
 use crate::threshold::tables::{build_tables, rect_sum};
-use crate::{Check, ImgProcError, reach};
-use image::{Geometry, Layout};
+use crate::{ImgProcError, reach};
+use image::{Geometry, Gray8View};
 
 // Settings of a binarization. k is given in thousandths.
 #[derive(Clone, Copy)]
@@ -34,18 +35,11 @@ pub struct SauvolaConfig {
     pub light_value: u8,
 }
 
-// A binarization answers that it is done, or with its refusal.
-#[derive(Clone, Copy)]
-pub enum Binarized {
-    Done,
-    Refused(ImgProcError),
-}
+// The settings that the published Rust has by default.
+impl Default for SauvolaConfig {
+    ghost is_default = { λ c. c ≡ sauvola_defaults };
 
-impl SauvolaConfig {
-    // Gives the settings that the published Rust has by default.
-    pub fn default() -> Self
-        ensures { result ≡ sauvola_defaults }
-    {
+    fn default() -> Self {
         Self {
             radius: 8,
             k_milli: 200,
@@ -56,177 +50,142 @@ impl SauvolaConfig {
     }
 }
 
-// Gives the number of an answer: 0 where the call is done, else its refusal's.
-pub fn binarized_number(answer: Binarized) -> u32
-    ensures { result ≡ answer_number (binarized_answer answer) }
-{
-    match answer {
-        Binarized::Done => 0,
-        Binarized::Refused(error) => crate::number(error),
-    }
-}
-
-// Finds the largest whole number whose square is at most `value`, a variance of bytes, by bisection.
+// Finds the largest whole number whose square is at most `value`, a variance of bytes.
 fn integer_sqrt(value: u64) -> u64
     requires { value < 65536 }
     ensures { (result ≡ whole_root value) × (result < 256) }
 {
-    let mut low: u64 = 0;
-    let mut high: u64 = 256;
-    while 1 < high - low {
-        let middle = low + (high - low) / 2;
-        if middle * middle <= value {
-            low = middle;
-        } else {
-            high = middle;
-        }
+    (value as u16).isqrt() as u64
+}
+
+// The sums of a window's pixels and of their squares, and how many pixels it has.
+#[derive(Clone, Copy)]
+struct Sums {
+    sum: u64,
+    sum_sq: u64,
+    count: u64,
+    ghost sane: { Sane sum sum_sq count },
+}
+
+impl Sums {
+    fn mean(self) -> u64
+        ensures { (result ≡ mean self.sum self.count) × (result < 256) }
+    {
+        self.sum / self.count
     }
-    low
-}
 
-// Works out the spread of a window's pixels about their mean, from their sums.
-fn spread(sum: u64, sum_sq: u64, count: u64) -> u64
-    requires { Sane sum sum_sq count }
-    ensures { (result ≡ spread sum sum_sq count) × (result < 256) }
-{
-    let mean = sum / count;
-    integer_sqrt(sum_sq / count - mean * mean)
-}
+    // Works out how far the pixels spread about their mean.
+    #[tactic(auto, unfolding(crate::specs::Sauvola::spread))]
+    fn spread(self) -> u64
+        ensures { (result ≡ spread self.sum self.sum_sq self.count) × (result < 256) }
+    {
+        let mean = self.mean();
+        integer_sqrt(self.sum_sq / self.count - mean * mean)
+    }
 
-// Works out the threshold of a window from its sums.
-fn threshold_of(sum: u64, sum_sq: u64, count: u64, config: SauvolaConfig) -> u64
-    requires { Sane sum sum_sq count × InRange config }
-    ensures { result ≡ threshold config sum sum_sq count }
-{
-    let mean = sum / count;
-    let k = config.k_milli as u64;
-    let range = config.dynamic_range as u64;
-    let scale = 1000 - k + k * spread(sum, sum_sq, count) / range;
-    mean * scale / 1000
-}
-
-// Works out the threshold of pixel (x, y) from both tables.
-pub(crate) fn threshold_at_pixel(
-    src: &[u8],
-    geometry: Geometry,
-    workspace: &[u64],
-    at: usize,
-    config: SauvolaConfig,
-    x: usize,
-    y: usize,
-) -> u64
-    requires { Ready
-        (record { src = src.now; source = geometry; workspace = workspace.now; at = at; settings = config })
-        × ((x < geometry.width) × (y < geometry.height)) }
-    ensures { result
-        ≡ threshold_at_pixel config geometry.width geometry.height (picture src.now geometry) x y }
-{
-    let wide = geometry.width + 1;
-    let squares = at + wide * (geometry.height + 1);
-    let x0 = reach::low(x, config.radius);
-    let x1 = reach::high(x, config.radius, geometry.width) + 1;
-    let y0 = reach::low(y, config.radius);
-    let y1 = reach::high(y, config.radius, geometry.height) + 1;
-    let sum = rect_sum(workspace, at, wide, x0, y0, x1, y1);
-    let sum_sq = rect_sum(workspace, squares, wide, x0, y0, x1, y1);
-    let count = (x1 - x0) * (y1 - y0);
-    threshold_of(sum, sum_sq, count as u64, config)
-}
-
-// Judges row y of the source: a pixel at or below its threshold is dark.
-fn verdict_row(
-    src: &[u8],
-    geometry: Geometry,
-    workspace: &[u64],
-    at: usize,
-    config: SauvolaConfig,
-    y: usize,
-    out: &mut [u8],
-)
-    requires { RowReady
-        (record { src = src.now; source = geometry; workspace = workspace.now; at = at; settings = config })
-        y
-        out.old }
-    ensures { (x : ℕ) → x < geometry.width
-        → get_or out.new x 0
-        ≡ verdict config geometry.width geometry.height (picture src.now geometry) x y }
-{
-    let row = image::row(src, geometry, y);
-    let mut next = 0;
-    while next < geometry.width {
-        let x = next;
-        next += 1;
-        let threshold = threshold_at_pixel(src, geometry, workspace, at, config, x, y);
-        if row[x] as u64 <= threshold {
-            out[x] = config.dark_value;
-        } else {
-            out[x] = config.light_value;
-        }
+    fn threshold(self, config: SauvolaConfig) -> u64
+        requires { InRange config }
+        ensures { result ≡ threshold config self.sum self.sum_sq self.count }
+    {
+        let k = config.k_milli as u64;
+        let range = config.dynamic_range as u64;
+        let scale = 1000 - k + k * self.spread() / range;
+        self.mean() * scale / 1000
     }
 }
 
-// Judges a picture whose tables stand in the workspace, and writes the verdicts into the destination's rows.
-pub(crate) fn binarize_rows(
-    src: &[u8],
-    geometry: Geometry,
-    workspace: &[u64],
-    at: usize,
-    dst: &mut [u8],
-    dst_geometry: Geometry,
-    config: SauvolaConfig,
-)
-    requires { RowsReady
-        (record { src = src.now; source = geometry; workspace = workspace.now; at = at; settings = config })
-        dst.old
-        dst_geometry }
-    ensures { dst.new
-        ≡ painted_on dst.old dst_geometry
-        (binarized config geometry.width geometry.height (picture src.now geometry)) }
-{
-    let mut y = 0;
-    while y < geometry.height {
-        let from = y * dst_geometry.stride;
-        let to = from + geometry.width;
-        verdict_row(src, geometry, workspace, at, config, y, &mut dst[from..to]);
-        y += 1;
+// A picture whose tables stand in a workspace from `at` on, and the settings that judge it.
+#[derive(Clone, Copy)]
+pub(crate) struct Thresholds<'a> {
+    pub source: Gray8View<'a>,
+    pub tables: &'a [u64],
+    pub at: usize,
+    pub config: SauvolaConfig,
+    pub ghost tabled: { Tables source.pixels.now source.geometry at tables.now },
+    pub ghost in_range: { InRange config },
+}
+
+impl<'a> Thresholds<'a> {
+    // Works out the threshold of pixel (x, y) from both tables.
+    pub(crate) fn at_pixel(self, x: usize, y: usize) -> u64
+        requires { (x < self.source.geometry.width) × (y < self.source.geometry.height) }
+        ensures { let s = self.entry.source in let g = s.geometry in
+            result ≡ threshold_at_pixel self.entry.config g.width g.height (picture s.pixels.now g) x y }
+    {
+        let geometry = self.source.geometry;
+        let radius = self.config.radius;
+        let wide = geometry.width + 1;
+        let squares = self.at + wide * (geometry.height + 1);
+        let x0 = reach::low(x, radius);
+        let x1 = reach::high(x, radius, geometry.width) + 1;
+        let y0 = reach::low(y, radius);
+        let y1 = reach::high(y, radius, geometry.height) + 1;
+        let sum = rect_sum(self.tables, self.at, wide, x0, y0, x1, y1);
+        let sum_sq = rect_sum(self.tables, squares, wide, x0, y0, x1, y1);
+        let count = ((x1 - x0) * (y1 - y0)) as u64;
+        let sums = Sums { sum, sum_sq, count };
+        sums.threshold(self.config)
+    }
+
+    // Judges row y of the source: a pixel at or below its threshold is dark.
+    fn binarize_row(self, y: usize, out: &mut [u8])
+        requires { (y < self.source.geometry.height) × (length out.old ≡ self.source.geometry.width) }
+        ensures { let s = self.entry.source in let g = s.geometry in
+            (x : ℕ) → x < g.width
+            → get_or out.new x 0 ≡ verdict self.entry.config g.width g.height (picture s.pixels.now g) x y }
+    {
+        for (x, value) in self.source.row(y).iter().enumerate() {
+            out[x] = if *value as u64 <= self.at_pixel(x, y) {
+                self.config.dark_value
+            } else {
+                self.config.light_value
+            };
+        }
+    }
+
+    // Judges the picture, and writes the verdicts into the destination's rows.
+    fn binarize(self, dst: &mut [u8], dst_geometry: Geometry)
+        requires { let g = self.source.geometry in
+            Kept (length dst.old) dst_geometry
+            × ((dst_geometry.width ≡ g.width) × (dst_geometry.height ≡ g.height)) }
+        ensures { let s = self.entry.source in let g = s.geometry in
+            dst.new
+            ≡ painted_on dst.old dst_geometry
+            (binarized self.entry.config g.width g.height (picture s.pixels.now g)) }
+    {
+        for y in 0..self.source.geometry.height {
+            let from = y * dst_geometry.stride;
+            let to = from + self.source.geometry.width;
+            self.binarize_row(y, &mut dst[from..to]);
+        }
     }
 }
 
 // Accepts settings that are in range.
-pub(crate) fn check_settings(config: SauvolaConfig) -> Check
+pub(crate) fn check_settings(config: SauvolaConfig) -> Result<(), ImgProcError>
     ensures { result ≡ first (sauvola_settings config) }
 {
-    if config.radius == 0 {
-        return Check::Refused(ImgProcError::InvalidConfiguration);
+    if config.radius == 0 || config.k_milli > 1000 || config.dynamic_range == 0 {
+        return Err(ImgProcError::InvalidConfiguration);
     }
-    if config.k_milli > 1000 {
-        return Check::Refused(ImgProcError::InvalidConfiguration);
-    }
-    if config.dynamic_range == 0 {
-        return Check::Refused(ImgProcError::InvalidConfiguration);
-    }
-    Check::Accepted
+    Ok(())
 }
 
 // Accepts settings in range, and then a workspace that holds both tables of a picture.
-fn check_room(config: SauvolaConfig, geometry: Geometry, room: usize) -> Check
-    requires { (geometry.width ≤ side_limit) × (geometry.height ≤ side_limit) }
-    ensures { result ≡ first (settings_and_room config geometry room) }
+fn check_room(config: SauvolaConfig, source: Gray8View<'_>, room: usize) -> Result<(), ImgProcError>
+    ensures { result ≡ first (settings_and_room config source.entry.geometry room) }
 {
-    let check = check_settings(config);
-    let Check::Accepted = check else {
-        return check;
-    };
+    let geometry = source.geometry;
+    check_settings(config)?;
     if room < 2 * ((geometry.width + 1) * (geometry.height + 1)) {
-        return Check::Refused(ImgProcError::WorkspaceTooSmall);
+        return Err(ImgProcError::WorkspaceTooSmall);
     }
-    check
+    Ok(())
 }
 
 // Builds both tables, then judges every pixel.
 fn binarize(
-    src: &[u8],
-    geometry: Geometry,
+    source: Gray8View<'_>,
     dst: &mut [u8],
     dst_geometry: Geometry,
     config: SauvolaConfig,
@@ -234,19 +193,26 @@ fn binarize(
 )
     requires { BinarizeReady
         (record {
-          src = src.now;
-          source = geometry;
+          src = source.pixels.now;
+          source = source.geometry;
           dst = dst.old;
           target = dst_geometry;
           settings = config;
           workspace = workspace.old;
         }) }
-    ensures { dst.new
+    ensures { let s = source.entry in let g = s.geometry in
+        dst.new
         ≡ painted_on dst.old dst_geometry
-        (binarized config geometry.width geometry.height (picture src.now geometry)) }
+        (binarized config g.width g.height (picture s.pixels.now g)) }
 {
-    build_tables(src, geometry, workspace, 0);
-    binarize_rows(src, geometry, workspace, 0, dst, dst_geometry, config);
+    build_tables(source, workspace, 0);
+    let thresholds = Thresholds {
+        source,
+        tables: workspace,
+        at: 0,
+        config,
+    };
+    thresholds.binarize(dst, dst_geometry);
 }
 
 // Binarizes a picture by Sauvola's threshold into the rows of the destination.
@@ -257,7 +223,7 @@ pub fn sauvola_into(
     dst_geometry: Geometry,
     config: SauvolaConfig,
     workspace: &mut [u64],
-) -> Binarized
+) -> Result<(), ImgProcError>
     ensures { Serves sauvola
         (record {
           src = src.now;
@@ -267,27 +233,11 @@ pub fn sauvola_into(
           settings = config;
           workspace = workspace.old;
         })
-        (binarized_answer result)
+        (answered error_number result)
         (record { dst = dst.new; workspace = workspace.new }) }
 {
-    let layout = image::validate_layout(src.len(), src_geometry);
-    let Layout::Valid(g) = layout else {
-        return Binarized::Refused(ImgProcError::Image(image::refusal(layout)));
-    };
-    let dst_layout = image::validate_layout(dst.len(), dst_geometry);
-    let Layout::Valid(d) = dst_layout else {
-        return Binarized::Refused(ImgProcError::Image(image::refusal(dst_layout)));
-    };
-    if g.width != d.width {
-        return Binarized::Refused(ImgProcError::DimensionMismatch);
-    }
-    if g.height != d.height {
-        return Binarized::Refused(ImgProcError::DimensionMismatch);
-    }
-    let check = check_room(config, g, workspace.len());
-    if let Check::Refused(error) = check {
-        return Binarized::Refused(error);
-    }
-    binarize(src, g, dst, d, config, workspace);
-    Binarized::Done
+    let source = check_pair(src, src_geometry, dst.len(), dst_geometry)?;
+    check_room(config, source, workspace.len())?;
+    binarize(source, dst, dst_geometry, config, workspace);
+    Ok(())
 }

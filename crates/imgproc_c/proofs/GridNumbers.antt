@@ -1,5 +1,6 @@
 -- Derives the contract of the build's export from the build's: a number that is no method's is refused where the grid's settings are checked. Assumes
 -- nothing.
+use Rattle.std.specs.Prelude.{Err}
 use Prim.Native.Nat.{ℕ, zero, suc}
 use native.Mathlib.Omega.{arith}
 use mathlib.Core.Path.{◌≡◌, refl, sym, ap, subst, ◌∙◌}
@@ -14,12 +15,11 @@ use lib.Ieee.{Float, lt}
 use borrow.Author.Tests.{lt-ltb}
 use Rattle.image.specs.Answers.{Answer}
 use Rattle.imgproc.specs.declared.ImgProcError.TheVariants.{InvalidConfiguration}
-use Rattle.imgproc.specs.declared.Check.{Check}
-use Rattle.imgproc.specs.declared.Check.TheVariants.{Refused}
 use Rattle.imgproc.specs.declared.grid.config.TileThresholdMethod.{TileThresholdMethod}
 use Rattle.imgproc.specs.declared.grid.config.TileThresholdMethod.TheVariants.{Sauvola}
 use Rattle.imgproc.specs.declared.grid.config.TileThresholdConfig.{TileThresholdConfig}
 use Rattle.imgproc.specs.Grid.{nought}
+use Rattle.imgproc.specs.declared.grid.TileCounts.{TileCounts}
 use Rattle.imgproc.specs.GridCalls.{
   usable_method,
   grid_settings,
@@ -27,12 +27,11 @@ use Rattle.imgproc.specs.GridCalls.{
   grid_room,
   BuildLent,
   BuildLeft,
-  TileCounts,
   tiles_from,
   build_conditions,
   Builds,
 }
-use Rattle.imgproc.specs.Refusals.{first, ◌then◌, refused_if, answer_by, view_conditions}
+use Rattle.imgproc.specs.Refusals.{Check, first, ◌then◌, refused_if, answer_by, view_conditions}
 use Rattle.imgproc.specs.RefusalLaws.{then_same, refuses, passes, refuses_last}
 use Rattle.imgproc_c.specs.Exports.{Tells}
 use Rattle.imgproc_c.specs.Grid.{method_of, method_conditions, settings, number_conditions, BuildsNumber}
@@ -46,7 +45,7 @@ other_method (suc zero) k range no-midrange no-sauvola = absurd (no-sauvola refl
 other_method (suc (suc n)) k range no-midrange no-sauvola = refl
 
 -- a method whose range is 0 is refused, whatever the tile sides are
-out_of_range : (sides : Bool) → first (refused_if (sides || true) InvalidConfiguration) ≡ Refused InvalidConfiguration
+out_of_range : (sides : Bool) → first (refused_if (sides || true) InvalidConfiguration) ≡ Err InvalidConfiguration
 out_of_range true = refuses_last true InvalidConfiguration refl
 out_of_range false = refuses_last true InvalidConfiguration refl
 

@@ -1,4 +1,5 @@
--- Derives the contracts of the picture's exports from the contracts of its calls. Assumes nothing.
+-- Derives the contract of a row's export from those of the row and of the copy. Assumes nothing.
+use Rattle.std.specs.Prelude.{Ok}
 use Prim.Native.Nat.{ℕ}
 use native.Mathlib.Nat.{mul-one}
 use native.Mathlib.Omega.{arith}
@@ -7,37 +8,20 @@ use mathlib.Core.List.{List}
 use lib.ListN.{length}
 use borrow.Author.Tests.{ltb-true}
 use Rattle.image.specs.declared.Geometry.{Geometry}
-use Rattle.image.specs.declared.LumaError.{LumaError}
-use Rattle.image.specs.declared.Layout.{Layout}
-use Rattle.image.specs.declared.Layout.TheVariants.{Valid, Invalid}
 use Rattle.image.specs.Answers.{Answer, accepted, refused, answer_number, Bare}
-use Rattle.image.specs.Layout.{Kept, layout_of, layout_answer, row_layout}
+use Rattle.image.specs.Layout.{Layout, Kept, layout_of, row_layout}
 use Rattle.image.specs.LayoutLaws.{row_inside, kept_valid}
-use Rattle.image.specs.Pixel.{Sets}
 use Rattle.image.specs.Plane.{overwritten}
 use Rattle.image.specs.PlaneLaws.{packed_again}
 use Rattle.image.specs.RowLaws.{row_long}
 use Rattle.image.specs.Row.{row_in}
-use Rattle.image.specs.Copy.{copied_in, packed_in, Packs, Unpacks}
-use Rattle.imgproc_c.specs.Picture.{geometry, SetsNumber, row_room, row_out, RowCopied, PacksNumber, UnpacksNumber}
+use Rattle.image.specs.Copy.{copied_in, packed_in, Packs}
+use Rattle.imgproc_c.specs.Picture.{geometry, row_room, row_out, RowCopied}
 
--- the number of a write's answer makes the export's contract
-pub set_number : (before : List ℕ) (g : Geometry) (x y v : ℕ) {answer : Answer Bare} {number : ℕ} {after : List ℕ}
-    → Sets before g x y v answer after → number ≡ answer_number answer → SetsNumber before g x y v number after
-set_number before g x y v s q = record { answers = q ∙ ap answer_number s.answers; sets = record { answers = refl; leaves = s.leaves } }
-
--- a copy of a row is refused as the row is, and else packs the row as a picture of one row
+-- a row that is not refused is packed as a picture of one row
 module _ (d : List ℕ) (g : Geometry) (y : ℕ) (before : List ℕ) {l : Layout} (is : l ≡ row_layout (length d) g y) where
-  pub no_row : {e : LumaError} {n : ℕ} → l ≡ Invalid e → n ≡ answer_number (layout_answer l) → RowCopied d g y before n before
-  no_row {e} i q =
-      let r : Invalid e ≡ row_layout (length d) g y = sym i ∙ is in
-      record {
-        answers = q ∙ ap (λ (k : Layout). answer_number (layout_answer k)) i ∙ ap (λ (k : Layout). answer_number (row_room k (length before))) r;
-        leaves = ap (λ (k : Layout). row_out (row_room k (length before)) (row_in k d y) before) r;
-      }
-
-  module _ {v : Geometry} (i : l ≡ Valid v) {row : List ℕ} (own : row ≡ row_in (row_layout (length d) g y) d y) where
-    found : row_layout (length d) g y ≡ Valid v
+  module _ {v : Geometry} (i : l ≡ Ok v) {row : List ℕ} (own : row ≡ row_in (row_layout (length d) g y) d y) where
+    found : row_layout (length d) g y ≡ Ok v
     found = sym is ∙ i
 
     kept : Kept (length d) g
@@ -49,7 +33,7 @@ module _ (d : List ℕ) (g : Geometry) (y : ℕ) (before : List ℕ) {l : Layout
     long : length row ≡ g.width
     long = row_long d g kept y (ltb-true y g.height (row_inside (length d) g v y found).1) own
 
-    line : layout_of (length row) (geometry g.width 1 g.width) ≡ Valid (geometry g.width 1 g.width)
+    line : layout_of (length row) (geometry g.width 1 g.width) ≡ Ok (geometry g.width 1 g.width)
     line = kept_valid (record {
       wide = kept.wide;
       high = omega arith;
@@ -62,7 +46,7 @@ module _ (d : List ℕ) (g : Geometry) (y : ℕ) (before : List ℕ) {l : Layout
     room : copied_in (layout_of (length row) (geometry g.width 1 g.width)) 0 (length before) ≡ row_room (row_layout (length d) g y) (length before)
     room =
         ap (λ (k : Layout). copied_in k 0 (length before)) line
-        ∙ ap (λ (w : ℕ). copied_in (Valid (geometry w 1 w)) 0 (length before)) wide
+        ∙ ap (λ (w : ℕ). copied_in (Ok (geometry w 1 w)) 0 (length before)) wide
         ∙ ap (λ (k : Layout). row_room k (length before)) (sym found)
 
     whole : (c : Answer Bare) → packed_in c (geometry g.width 1 g.width) row 0 before ≡ row_out c row before
@@ -79,12 +63,3 @@ module _ (d : List ℕ) (g : Geometry) (y : ℕ) (before : List ℕ) {l : Layout
           ∙ ap (λ (k : Answer Bare). row_out k row before) room
           ∙ ap (λ (b : List ℕ). row_out (row_room (row_layout (length d) g y) (length before)) b before) own;
     }
-
--- the numbers of the two copies' answers make the exports' contracts
-pub packed_number : (src : List ℕ) (g : Geometry) (at : ℕ) (before : List ℕ) {c : Answer Bare} {n : ℕ} {after : List ℕ}
-    → Packs src g at before c after → n ≡ answer_number c → PacksNumber src g at before n after
-packed_number src g at before p q = record { answers = q ∙ ap answer_number p.answers; packs = record { answers = refl; leaves = p.leaves } }
-
-pub unpacked_number : (ws : List ℕ) (at : ℕ) (before : List ℕ) (g : Geometry) {c : Answer Bare} {n : ℕ} {after : List ℕ}
-    → Unpacks ws at before g c after → n ≡ answer_number c → UnpacksNumber ws at before g n after
-unpacked_number ws at before g p q = record { answers = q ∙ ap answer_number p.answers; unpacks = record { answers = refl; leaves = p.leaves } }

@@ -9,7 +9,6 @@ use lib.ListN.{length}
 use lib.Ieee.{Float}
 use Rattle.image.specs.Answers.{Answer}
 use Rattle.imgproc.specs.declared.ImgProcError.TheVariants.{InvalidKernel}
-use Rattle.imgproc.specs.declared.Check.{Check}
 use Rattle.imgproc.specs.declared.grid.config.TileThresholdMethod.{TileThresholdMethod}
 use Rattle.imgproc.specs.declared.reading.config.ReadingConfig.{ReadingConfig}
 use Rattle.imgproc.specs.GridCalls.{grid_settings}
@@ -23,7 +22,7 @@ use Rattle.imgproc.specs.Reading.{
   reading_conditions,
   Reads,
 }
-use Rattle.imgproc.specs.Refusals.{first, ◌then◌, refused_if, answer_by, pair_conditions, bad_kernel, division_settings, sauvola_settings}
+use Rattle.imgproc.specs.Refusals.{Check, first, ◌then◌, refused_if, answer_by, pair_conditions, bad_kernel, division_settings, sauvola_settings}
 use Rattle.imgproc.specs.RefusalLaws.{then_same}
 use Rattle.imgproc_c.specs.Exports.{Tells}
 use Rattle.imgproc_c.specs.Grid.{method_of, method_conditions}

@@ -8,11 +8,11 @@ use Rattle.imgproc.specs.declared.grid.config.TileThresholdMethod.TheVariants.{M
 use Rattle.imgproc.specs.declared.grid.config.TileThresholdConfig.{TileThresholdConfig}
 use Rattle.imgproc.specs.declared.grid.queries.TileThresholdGrid.{TileThresholdGrid}
 use Rattle.imgproc.specs.Grid.{nought}
+use Rattle.imgproc.specs.declared.grid.TileCounts.{TileCounts}
 use Rattle.imgproc.specs.GridCalls.{
   grid_settings,
   BuildLent,
   BuildLeft,
-  TileCounts,
   tiles_from,
   build_conditions_by,
   BuildsBy,

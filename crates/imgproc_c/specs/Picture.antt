@@ -1,11 +1,10 @@
 -- Says what the exports of the picture crate promise: each returns the number of the call's answer, and leaves what the
 -- call leaves. Definitions only.
+use Rattle.std.specs.Prelude.{Ok, Err}
 use Rattle.std.specs.Prelude.{ℕ, ◌≡◌, List, length}
 use Rattle.image.specs.declared.Geometry.{Geometry}
-use Rattle.image.specs.declared.Layout.{Layout}
-use Rattle.image.specs.declared.Layout.TheVariants.{Valid, Invalid}
 use Rattle.image.specs.Answers.{Answer, accepted, refused, answer_number, Bare}
-use Rattle.image.specs.Layout.{layout_of, number_of, pixel_layout, row_layout}
+use Rattle.image.specs.Layout.{Layout, layout_of, number_of, pixel_layout, row_layout}
 use Rattle.image.specs.Pixel.{written_in, Sets}
 use Rattle.image.specs.Plane.{overwritten}
 use Rattle.image.specs.Row.{row_in}
@@ -22,8 +21,8 @@ pub record SetsNumber (before : List ℕ) (g : Geometry) (x y v number : ℕ) (a
 
 -- the answer of a copy of a row into room bytes: the row's refusal, else 8 where they are too few
 abbrev pub row_room : Layout → ℕ → Answer Bare
-row_room (Valid g) room = copied_in (Valid (geometry g.width 1 g.width)) 0 room
-row_room (Invalid e) room = refused (number_of e)
+row_room (Ok g) room = copied_in (Ok (geometry g.width 1 g.width)) 0 room
+row_room (Err e) room = refused (number_of e)
 
 -- the bytes that a copy of a row leaves
 abbrev pub row_out : Answer Bare → List ℕ → List ℕ → List ℕ

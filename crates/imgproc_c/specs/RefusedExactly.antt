@@ -3,7 +3,8 @@
 use Rattle.std.specs.Prelude.{ℕ, ◌≡◌}
 use Rattle.image.specs.Answers.{refused}
 use Rattle.image.specs.RefusedExactly.{Exactly}
-use Rattle.imgproc.specs.GridCalls.{BuildLent, BuildLeft, TileCounts, tiles_from}
+use Rattle.imgproc.specs.declared.grid.TileCounts.{TileCounts}
+use Rattle.imgproc.specs.GridCalls.{BuildLent, BuildLeft, tiles_from}
 use Rattle.imgproc.specs.Reading.{ReadingLent, ReadingLeft, ReadingNumbers, numbers_from}
 use Rattle.imgproc.specs.RefusedExactly.{numbers, build_exactly, build_keeps, reading_exactly, reading_keeps}
 use Rattle.imgproc_c.specs.Grid.{number_conditions, built_from, BuildsNumber}

@@ -1,77 +1,74 @@
 // Takes answers apart: each function returns the number of the answer, and stores its values in lent numbers. A refusal
 // leaves these as they were.
+ghost use Rattle.image.specs.Answers.{answered};
 ghost use Rattle.imgproc.specs.MorphologyCalls.{compared_answer};
-ghost use Rattle.imgproc.specs.GridCalls.{built_answer, tile_threshold_answer, tile_skip_answer};
+ghost use Rattle.imgproc.specs.Refusals.{error_number};
 ghost use Rattle.imgproc.specs.Reading.{read_answer};
 ghost use Rattle.imgproc_c.specs.Exports.{Tells, as_byte};
 
-use imgproc::grid::{Built, TileSkip, TileThreshold};
-use imgproc::morphology::{Compared, tally};
-use imgproc::reading::Read;
+use image::Refusal;
+use imgproc::ImgProcError;
+use imgproc::grid::TileCounts;
+use imgproc::morphology::tally::{self, Tally};
+use imgproc::reading::ReadingCounts;
 
-// Stores the count in the lent number.
-pub(crate) fn counted(answer: Compared, comparisons: &mut u64) -> u32
-    ensures { Tells (compared_answer answer) comparisons.old result comparisons.new }
+// Stores the value in the lent number.
+pub(crate) fn told<T: Copy, E: Refusal>(answer: Result<T, E>, value: &mut T) -> u32
+    ensures { Tells (answered E.number_of answer) value.old result value.new }
 {
     match answer {
-        Compared::Comparisons(made) => {
-            *comparisons = tally::comparisons(made);
+        Ok(found) => {
+            *value = found;
             0
         }
-        Compared::Refused(error) => imgproc::number(error),
+        Err(error) => error.number(),
     }
 }
 
-// Stores the tile counts in the lent numbers.
-pub(crate) fn built(answer: Built, tiles_x: &mut usize, tiles_y: &mut usize) -> u32
-    ensures { Tells (built_answer answer)
+// Stores 1 in the lent number for a yes, and else 0.
+pub(crate) fn told_byte(answer: Result<bool, ImgProcError>, value: &mut u8) -> u32
+    ensures { Tells (as_byte (answered error_number answer)) value.old result value.new }
+{
+    told(answer.map(u8::from), value)
+}
+
+// Stores the count in the lent number. The tally is read where the answer is taken apart, as tools/tally asks.
+pub(crate) fn counted(answer: Result<Tally, ImgProcError>, comparisons: &mut u64) -> u32
+    ensures { Tells (compared_answer answer) comparisons.old result comparisons.new }
+{
+    match answer {
+        Ok(made) => {
+            *comparisons = tally::comparisons(made);
+            0
+        }
+        Err(refusal) => refusal.number(),
+    }
+}
+
+// Stores the tile counts in the lent numbers. C lends a number for each, so `told` can't store them at once.
+pub(crate) fn built(
+    answer: Result<TileCounts, ImgProcError>,
+    tiles_x: &mut usize,
+    tiles_y: &mut usize,
+) -> u32
+    ensures { Tells (answered error_number answer)
         (record { tiles_x = tiles_x.old; tiles_y = tiles_y.old })
         result
         (record { tiles_x = tiles_x.new; tiles_y = tiles_y.new }) }
 {
     match answer {
-        Built::Tiles(x, y) => {
-            *tiles_x = x;
-            *tiles_y = y;
+        Ok(counts) => {
+            *tiles_x = counts.tiles_x;
+            *tiles_y = counts.tiles_y;
             0
         }
-        Built::Refused(error) => imgproc::number(error),
+        Err(error) => error.number(),
     }
 }
 
-// Stores the threshold in the lent number.
-pub(crate) fn asked_threshold(answer: TileThreshold, value: &mut u8) -> u32
-    ensures { Tells (tile_threshold_answer answer) value.old result value.new }
-{
-    match answer {
-        TileThreshold::Value(found) => {
-            *value = found;
-            0
-        }
-        TileThreshold::Refused(error) => imgproc::number(error),
-    }
-}
-
-// Stores 1 in the lent number for a skip, and else 0.
-pub(crate) fn asked_skip(answer: TileSkip, value: &mut u8) -> u32
-    ensures { Tells (as_byte (tile_skip_answer answer)) value.old result value.new }
-{
-    match answer {
-        TileSkip::Is(skip) => {
-            if skip {
-                *value = 1;
-            } else {
-                *value = 0;
-            }
-            0
-        }
-        TileSkip::Refused(error) => imgproc::number(error),
-    }
-}
-
-// Stores the four counts in the lent numbers.
+// Stores the four counts in the lent numbers, of which C lends four.
 pub(crate) fn read(
-    answer: Read,
+    answer: Result<ReadingCounts, ImgProcError>,
     dark: &mut u64,
     light: &mut u64,
     skipped: &mut u64,
@@ -93,13 +90,13 @@ pub(crate) fn read(
         }) }
 {
     match answer {
-        Read::Counts(counts) => {
+        Ok(counts) => {
             *dark = counts.dark;
             *light = counts.light;
             *skipped = counts.skipped;
             *comparisons = tally::comparisons(counts.tally);
             0
         }
-        Read::Refused(error) => imgproc::number(error),
+        Err(error) => error.number(),
     }
 }

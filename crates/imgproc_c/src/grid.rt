@@ -5,11 +5,11 @@ ghost use Rattle.imgproc_c.specs.Picture.{geometry};
 ghost use Rattle.imgproc_c.specs.Exports.{Tells, as_byte};
 ghost use Rattle.imgproc_c.specs.Grid.{method_of, settings, grid, BuildsNumber};
 
-use crate::answers::{asked_skip, asked_threshold, built};
+use crate::answers::{built, told, told_byte};
 use image::Geometry;
 use imgproc::grid::{SauvolaFloats, TileThresholdConfig, TileThresholdGrid, TileThresholdMethod};
 
-// Gives the method of a number. Any number but 0 and 1 gets a range of 0, which the build refuses.
+// Gives the method of a number, as which C has it. Any number but 0 and 1 gets a range of 0, which the build refuses.
 pub(crate) fn method_of(method: u32, k: f64, dynamic_range: f64) -> TileThresholdMethod
     ensures { result ≡ method_of method k dynamic_range }
 {
@@ -106,7 +106,7 @@ pub extern "C" fn imgproc_threshold_at(
         tiles_x,
         tiles_y,
     };
-    asked_threshold(grid.threshold_at(thresholds, x, y), value)
+    told(grid.threshold_at(thresholds, x, y), value)
 }
 
 #[unsafe(no_mangle)]
@@ -138,7 +138,7 @@ pub extern "C" fn imgproc_is_skip(
         tiles_x,
         tiles_y,
     };
-    asked_skip(grid.is_skip(skips, x, y), value)
+    told_byte(grid.is_skip(skips, x, y), value)
 }
 
 #[unsafe(no_mangle)]
@@ -169,5 +169,5 @@ pub extern "C" fn imgproc_row_all_skip(
         tiles_x,
         tiles_y,
     };
-    asked_skip(grid.row_all_skip(skips, y), value)
+    told_byte(grid.row_all_skip(skips, y), value)
 }

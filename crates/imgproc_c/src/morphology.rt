@@ -1,4 +1,4 @@
-// Exports erosion, dilation, opening and closing.
+// Exports erosion, dilation, opening and closing. C needs a function for each name.
 ghost use Rattle.imgproc.specs.MorphologyCalls.{erosion, dilation, opening, closing};
 ghost use Rattle.imgproc_c.specs.Picture.{geometry};
 ghost use Rattle.imgproc_c.specs.Exports.{Exports};

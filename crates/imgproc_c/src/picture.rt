@@ -6,7 +6,8 @@ ghost use Rattle.image.specs.Pixel.{value_in};
 ghost use Rattle.imgproc_c.specs.Exports.{Tells};
 ghost use Rattle.imgproc_c.specs.Picture.{geometry, SetsNumber, RowCopied, PacksNumber, UnpacksNumber};
 
-use image::{Geometry, Layout, Pixel, Written};
+use crate::answers::told;
+use image::{Geometry, Refusal, answer_number};
 
 #[unsafe(no_mangle)]
 pub extern "C" fn imgproc_validate_layout(
@@ -22,7 +23,7 @@ pub extern "C" fn imgproc_validate_layout(
         height,
         stride,
     };
-    image::layout_number(image::validate_layout(len, geometry))
+    answer_number(image::validate_layout(len, geometry))
 }
 
 #[unsafe(no_mangle)]
@@ -48,14 +49,7 @@ pub extern "C" fn imgproc_get(
         height,
         stride,
     };
-    let pixel = image::get(data, geometry, x, y);
-    match pixel {
-        Pixel::Value(found) => {
-            *value = found;
-            0
-        }
-        Pixel::Refused(error) => image::number(error),
-    }
+    told(image::get(data, geometry, x, y), value)
 }
 
 #[unsafe(no_mangle)]
@@ -82,11 +76,7 @@ pub extern "C" fn imgproc_set(
         height,
         stride,
     };
-    let written = image::set(data, geometry, x, y, value);
-    match written {
-        Written::Done => 0,
-        Written::Refused(error) => image::number(error),
-    }
+    answer_number(image::set(data, geometry, x, y, value))
 }
 
 #[unsafe(no_mangle)]
@@ -104,7 +94,7 @@ pub extern "C" fn imgproc_check_row(
         height,
         stride,
     };
-    image::layout_number(image::check_row(len, geometry, y))
+    answer_number(image::check_row(len, geometry, y))
 }
 
 // Copies row y into the first bytes of `out`. An `out` that is shorter than the row is refused with 8.
@@ -130,16 +120,15 @@ pub extern "C" fn imgproc_row(
         height,
         stride,
     };
-    let layout = image::check_row(data.len(), geometry, y);
-    let Layout::Valid(_) = layout else {
-        return image::layout_number(layout);
-    };
+    if let Err(error) = image::check_row(data.len(), geometry, y) {
+        return error.number();
+    }
     let line = Geometry {
         width,
         height: 1,
         stride: width,
     };
-    image::copied_number(image::pack(image::row(data, geometry, y), line, out, 0))
+    answer_number(image::pack(image::row(data, geometry, y), line, out, 0))
 }
 
 #[unsafe(no_mangle)]
@@ -164,7 +153,7 @@ pub extern "C" fn imgproc_pack(
         height,
         stride,
     };
-    image::copied_number(image::pack(src, geometry, workspace, at))
+    answer_number(image::pack(src, geometry, workspace, at))
 }
 
 #[unsafe(no_mangle)]
@@ -189,5 +178,5 @@ pub extern "C" fn imgproc_unpack(
         height,
         stride,
     };
-    image::copied_number(image::unpack(workspace, at, dst, geometry))
+    answer_number(image::unpack(workspace, at, dst, geometry))
 }

@@ -56,6 +56,7 @@ pub extern "C" fn imgproc_sauvola_into(
         dark_value,
         light_value,
     };
-    let answer = imgproc::threshold::sauvola_into(src, source, dst, target, config, workspace);
-    imgproc::threshold::binarized_number(answer)
+    image::answer_number(imgproc::threshold::sauvola_into(
+        src, source, dst, target, config, workspace,
+    ))
 }

@@ -1,9 +1,9 @@
 -- The one form of input that is accepted: "P5 w h 255", a line feed, and w × h bytes. Definitions only.
-use Rattle.std.specs.Prelude.{ℕ, ◌+◌, ◌*◌, ◌≤◌, ◌≡◌, List, [], ◌∷◌, ◌++◌, length}
+use Rattle.std.specs.Prelude.{ℕ, ◌+◌, ◌*◌, ◌≤◌, ◌≡◌, List, [], ◌∷◌, ◌++◌, length, Option, Some, None, Result, Ok, Err}
 use Rattle.image.specs.Answers.{Answer, accepted, refused, answer_number}
 use Rattle.pgm.specs.Decimal.{decimal}
-use Rattle.pgm.specs.declared.Parsed.{Parsed}
-use Rattle.pgm.specs.declared.Parsed.TheVariants.{Picture, Malformed}
+use Rattle.pgm.specs.declared.picture.Malformed.{Malformed}
+use Rattle.pgm.specs.declared.picture.Picture.{Picture}
 
 -- the largest side that is accepted
 abbrev pub side_limit : ℕ
@@ -47,23 +47,43 @@ longest = header_limit + side_limit * side_limit
 abbrev pub input_limit : ℕ
 input_limit = longest + 1
 
--- the values of a picture: its sides, and where its pixels start
+-- the values of a picture: its sides and its pixels
 pub record PictureFound : Type 0 where
   pub width : ℕ
   pub height : ℕ
-  pub start : ℕ
+  pub pixels : List ℕ
 
--- what `Parsed` says: a picture's values, or 11 for input of any other form
-abbrev pub parsed_answer : Parsed → Answer PictureFound
-parsed_answer (Picture w h at) = accepted (record { width = w; height = h; start = at })
-parsed_answer Malformed = refused 11
+-- what an input is parsed as: a picture, or none
+abbrev pub Parsed : Type 0
+Parsed = Option PictureFound
+
+-- the answer of what was parsed: the picture, or 11 for input of any other form
+abbrev pub found_answer : Parsed → Answer PictureFound
+found_answer (Some p) = accepted p
+found_answer None = refused 11
 
 -- the number of what was parsed: 0 for a picture
 abbrev pub parsed_number : Parsed → ℕ
-parsed_number p = answer_number (parsed_answer p)
+parsed_number r = answer_number (found_answer r)
 
--- what an input is parsed as: a picture has the form, and its pixels start after the header; a malformed input has the
--- form for no sides
+-- the values of a picture that `parse` hands out, and what it parsed the input as
+abbrev pub values : Picture → PictureFound
+values p = record { width = p.width; height = p.height; pixels = p.pixels.now }
+
+abbrev pub found : Result Picture Malformed → Parsed
+found (Ok p) = Some (values p)
+found (Err e) = None
+
+-- what `parse` says: a picture's values, or 11 for input of any other form
+abbrev pub parsed_answer : Result Picture Malformed → Answer PictureFound
+parsed_answer r = found_answer (found r)
+
+-- the input has the form of the picture, with its sides and its pixels
+pub record Pictured (input : List ℕ) (p : PictureFound) : Type 0 where
+  pub form : Form input p.width p.height
+  pub same : p.pixels ≡ form.pixels
+
+-- what an input is parsed as: a picture whose form it has; or none, where it has the form for no sides
 abbrev pub Answers : List ℕ → Parsed → Type 0
-Answers input (Picture w h at) = Form input w h × (at ≡ length (header w h))
-Answers input Malformed = (w h : ℕ) → Form input w h → ⊥
+Answers input (Some p) = Pictured input p
+Answers input None = (w h : ℕ) → Form input w h → ⊥

@@ -1,5 +1,5 @@
 -- The lines that answer: the counts, or a refusal's number. Definitions only.
-use Rattle.std.specs.Prelude.{ℕ, ◌≡◌, cond, List, [], ◌∷◌, ◌++◌, ltb, length, drop}
+use Rattle.std.specs.Prelude.{ℕ, ◌≡◌, cond, List, [], ◌∷◌, ◌++◌, ltb, length, drop, Option, Some, None}
 use Rattle.pgm.specs.Decimal.{decimal}
 
 -- the length of a buffer that holds any line: six numbers of 64 bits take at most 126 bytes
@@ -21,7 +21,7 @@ abbrev pub refused_line : ℕ → List ℕ
 refused_line n = refused_word ++ line (n ∷ [])
 
 -- the contract of a function that writes a line: a buffer of line_room bytes or more gets the line's bytes at its start,
--- and their count is the answer; a shorter buffer is left as it was, and the answer is 0
-pub record Writes (text before : List ℕ) (answer : ℕ) (after : List ℕ) : Type 0 where
-  pub answers : answer ≡ cond (ltb (length before) line_room) 0 (length text)
+-- and their count is the answer; a shorter buffer is left as it was, and there is no answer
+pub record Writes (text before : List ℕ) (answer : Option ℕ) (after : List ℕ) : Type 0 where
+  pub answers : answer ≡ cond (ltb (length before) line_room) None (Some (length text))
   pub leaves : after ≡ cond (ltb (length before) line_room) before (text ++ drop (length text) before)

@@ -1,8 +1,6 @@
--- The sides of which an input is a picture, as a function that computes. Definitions only.
-use Rattle.std.specs.Prelude.{ℕ, zero, suc, ◌+◌, ◌*◌, ◌/◌, ◌%◌, Bool, true, false, cond, ◌&&◌, List, [], ◌∷◌, eqb, length}
-use Rattle.pgm.specs.declared.Parsed.{Parsed}
-use Rattle.pgm.specs.declared.Parsed.TheVariants.{Picture, Malformed}
-use Rattle.pgm.specs.Form.{side_limit, header, PictureFound, parsed_answer}
+-- The picture that an input is, as a function that computes. Definitions only.
+use Rattle.std.specs.Prelude.{ℕ, zero, suc, ◌+◌, ◌*◌, ◌/◌, ◌%◌, Bool, true, false, cond, ◌&&◌, List, [], ◌∷◌, eqb, length, drop, Some, None}
+use Rattle.pgm.specs.Form.{side_limit, header, PictureFound, Parsed, found_answer}
 use Rattle.image.specs.Answers.{Answer}
 
 -- whether the bytes begin with a text
@@ -19,19 +17,23 @@ formed input w h = eqb (length input) (length (header w h) + w * h) && begins (h
 abbrev pub sides : ℕ
 sides = side_limit + 1
 
--- tries the first n pairs of sides, the last first: the pair of which the input is a picture, or Malformed. The pair
+-- the picture of w by h that an input with its header is: its pixels are what follows the header
+abbrev pub headed_by : List ℕ → ℕ → ℕ → PictureFound
+headed_by input w h = record { width = w; height = h; pixels = drop (length (header w h)) input }
+
+-- tries the first n pairs of sides, the last first: the picture of the pair of which the input is one, or none. The pair
 -- (w, h) is number w × 61 + h
 unfoldable pub sought : List ℕ → ℕ → Parsed
-sought input zero = Malformed
+sought input zero = None
 sought input (suc n) =
     let w = n / sides in
-    let h = n % sides in cond (formed input w h) (Picture w h (length (header w h))) (sought input n)
+    let h = n % sides in cond (formed input w h) (Some (headed_by input w h)) (sought input n)
 
--- the sides of which the input is a picture, and where its pixels start; Malformed where there are no such sides
+-- the picture that the input is; none where there is no such picture
 unfoldable pub parsed_of : List ℕ → Parsed
 unfolding sought
 parsed_of input = sought input (sides * sides)
 
 -- the answer of `parse` to an input
 abbrev pub parsed_from : List ℕ → Answer PictureFound
-parsed_from input = parsed_answer (parsed_of input)
+parsed_from input = found_answer (parsed_of input)

@@ -1,15 +1,15 @@
--- What is parsed of an input is the one pair of sides for which it has the form; and the first bytes of an input, one
+-- What is parsed of an input is the one picture whose form it has; and the first bytes of an input, one
 -- more than the longest picture has, tell what is parsed of the whole. Assumes nothing.
-use Rattle.std.specs.Prelude.{ℕ, zero, suc, ◌+◌, ◌*◌, ◌/◌, ◌%◌, ◌≤◌, ◌<◌, ◌≡◌, refl, Bool, true, false, cond, ◌⊎◌, List, [], ◌∷◌, ◌++◌, eqb, ltb, length, take, drop}
-use Rattle.std.proofs.Common.{arith, sym, ap, ap₂, subst, ◌∙◌, inl, inr, ⊎_elim, length-append, length-drop, take_all, length-take-le, eqb-true, eq-eqb, ltb-true, ltb-false}
+use Rattle.std.specs.Prelude.{ℕ, zero, suc, ◌+◌, ◌*◌, ◌/◌, ◌%◌, ◌≤◌, ◌<◌, ◌≡◌, refl, Bool, true, false, cond, List, [], ◌∷◌, ◌++◌, eqb, ltb, length, take, drop, Some, None, Result}
+use Rattle.std.proofs.Common.{arith, sym, ap, ap₂, subst, ◌∙◌, length-append, length-drop, take_all, length-take-le, eqb-true, eq-eqb, ltb-true, ltb-false}
 use Rattle.std.proofs.lemmas.Bool.{eqb-false}
 use Rattle.image.specs.Answers.{accepted}
 use Rattle.image.specs.LayoutLaws.{both}
-use Rattle.pgm.specs.declared.Parsed.{Parsed}
-use Rattle.pgm.specs.declared.Parsed.TheVariants.{Picture, Malformed}
-use Rattle.pgm.specs.Form.{side_limit, header, Form, input_limit, PictureFound, parsed_answer, Answers}
-use Rattle.pgm.specs.FormLaws.{same_header, form_short}
-use Rattle.pgm.specs.Parse.{begins, formed, sides, sought, parsed_of, parsed_from}
+use Rattle.pgm.specs.declared.picture.Malformed.{Malformed}
+use Rattle.pgm.specs.declared.picture.Picture.{Picture}
+use Rattle.pgm.specs.Form.{side_limit, header, Form, input_limit, PictureFound, Parsed, found_answer, found, parsed_answer, Pictured, Answers}
+use Rattle.pgm.specs.FormLaws.{same_header, form_short, after_header}
+use Rattle.pgm.specs.Parse.{begins, formed, sides, headed_by, sought, parsed_of, parsed_from}
 
 -- ---- the form as a test
 
@@ -49,31 +49,33 @@ form_formed input w h f =
 -- ---- what is sought is found
 
 -- what is known after n pairs were tried
-abbrev Found : List ℕ → ℕ → Parsed → Type 0
-Found input n (Picture w h at) = Form input w h × (at ≡ length (header w h))
-Found input n Malformed = (k : ℕ) → k < n → formed input (k / sides) (k % sides) ≡ false
+abbrev Tried : List ℕ → ℕ → Parsed → Type 0
+Tried input n (Some p) = Pictured input p
+Tried input n None = (k : ℕ) → k < n → formed input (k / sides) (k % sides) ≡ false
 
-found_more : (input : List ℕ) (n : ℕ) (b : Bool) (r : Parsed) → n < sides * sides →
-    formed input (n / sides) (n % sides) ≡ b → Found input n r →
-    Found input (suc n) (cond b (Picture (n / sides) (n % sides) (length (header (n / sides) (n % sides)))) r)
-found_more input n true r l e k = (formed_form input (n / sides) (n % sides) (omega arith) (omega arith) e, refl)
-found_more input n false (Picture w h at) l e k = k
-found_more input n false Malformed l e k = λ i p. either i p (eqb i n) refl
+tried_more : (input : List ℕ) (n : ℕ) (b : Bool) (r : Parsed) → n < sides * sides →
+    formed input (n / sides) (n % sides) ≡ b → Tried input n r →
+    Tried input (suc n) (cond b (Some (headed_by input (n / sides) (n % sides))) r)
+unfolding formed_form
+tried_more input n true r l e k =
+    record { form = formed_form input (n / sides) (n % sides) (omega arith) (omega arith) e; same = refl }
+tried_more input n false (Some p) l e k = k
+tried_more input n false None l e k = λ i p. either i p (eqb i n) refl
   where
     either : (i : ℕ) → i < suc n → (b : Bool) → eqb i n ≡ b → formed input (i / sides) (i % sides) ≡ false
     either i p true q = ap (λ (j : ℕ). formed input (j / sides) (j % sides)) (eqb-true i n q) ∙ e
     either i p false q = k i (let d : i ≡ n → ⊥ = eqb-false i n q in omega arith)
 
-found : (input : List ℕ) (n : ℕ) → n ≤ sides * sides → Found input n (sought input n)
+tried : (input : List ℕ) (n : ℕ) → n ≤ sides * sides → Tried input n (sought input n)
 unfolding sought
-found input zero l = λ i p. absurd (omega arith)
-found input (suc n) l =
+tried input zero l = λ i p. absurd (omega arith)
+tried input (suc n) l =
     let here = formed input (n / sides) (n % sides) in
-    found_more input n here (sought input n) (omega arith) refl (found input n (omega arith))
+    tried_more input n here (sought input n) (omega arith) refl (tried input n (omega arith))
 
-answers_found : (input : List ℕ) (r : Parsed) → Found input (sides * sides) r → Answers input r
-answers_found input (Picture w h at) k = k
-answers_found input Malformed k = λ w h f.
+answers_tried : (input : List ℕ) (r : Parsed) → Tried input (sides * sides) r → Answers input r
+answers_tried input (Some p) k = k
+answers_tried input None k = λ w h f.
     let n = w * sides + h in
     let i : n / sides ≡ w = omega (arith, f.wide, f.high) in
     let j : n % sides ≡ h = omega (arith, f.wide, f.high) in
@@ -85,83 +87,73 @@ answers_found input Malformed k = λ w h f.
 -- what is parsed of an input meets `Answers`, and nothing else does
 pub parsed_answers : (input : List ℕ) → Answers input (parsed_of input)
 unfolding parsed_of
-parsed_answers input = answers_found input (sought input (sides * sides)) (found input (sides * sides) (omega arith))
+parsed_answers input = answers_tried input (sought input (sides * sides)) (tried input (sides * sides) (omega arith))
+
+-- two pictures with the same sides and pixels are the same
+alike : (p q : PictureFound) → p.width ≡ q.width → p.height ≡ q.height → p.pixels ≡ q.pixels → p ≡ q
+alike p q w h d =
+    ap (λ (n : ℕ). record { width = n; height = p.height; pixels = p.pixels }) w
+    ∙ ap (λ (n : ℕ). record { width = q.width; height = n; pixels = p.pixels }) h
+    ∙ ap (λ (l : List ℕ). record { width = q.width; height = q.height; pixels = l }) d
 
 pub parsed_once : (input : List ℕ) (r s : Parsed) → Answers input r → Answers input s → r ≡ s
-parsed_once input (Picture w h at) (Picture v g to) p q =
-    let f = p.0 in
-    let k = q.0 in
-    let same = sym f.whole ∙ k.whole in
-    let s = same_header w h v g f.pixels k.pixels f.wide f.high k.wide k.high same in
-    let a : w ≡ v = s.0 in
-    let b : h ≡ g = s.1.0 in
-    let l : length (header w h) ≡ length (header v g) = rw (a, b) in
-    let t : at ≡ to = p.1 ∙ l ∙ sym q.1 in
-    cc
-parsed_once input (Picture w h at) Malformed p q = absurd (q w h p.0)
-parsed_once input Malformed (Picture v g to) p q = absurd (p v g q.0)
-parsed_once input Malformed Malformed p q = refl
+parsed_once input (Some p) (Some q) a b =
+    let f = a.form in
+    let k = b.form in
+    let e = sym f.whole ∙ k.whole in
+    let s = same_header p.width p.height q.width q.height f.pixels k.pixels f.wide f.high k.wide k.high e in
+    let w : p.width ≡ q.width = s.0 in
+    let h : p.height ≡ q.height = s.1.0 in
+    let d : p.pixels ≡ q.pixels = a.same ∙ s.1.1 ∙ sym b.same in
+    ap Some (alike p q w h d)
+parsed_once input (Some p) None a b = absurd (b p.width p.height a.form)
+parsed_once input None (Some q) a b = absurd (a q.width q.height b.form)
+parsed_once input None None a b = refl
 
 -- the answer determines what was parsed
-told_once : (r s : Parsed) → parsed_answer r ≡ parsed_answer s → r ≡ s
-told_once (Picture w h at) (Picture v g to) p =
-    let q : ◌≡◌ {A = PictureFound} (record { width = w; height = h; start = at })
-    (record { width = v; height = g; start = to }) =
-    cc in
-    let a : w ≡ v = ap (λ (f : PictureFound). f.width) q in
-    let b : h ≡ g = ap (λ (f : PictureFound). f.height) q in
-    let c : at ≡ to = ap (λ (f : PictureFound). f.start) q in
-    cc
-told_once (Picture w h at) Malformed p = let z : ◌≡◌ {A = ℕ} 0 1 = cc in absurd (omega arith)
-told_once Malformed (Picture v g to) p = let z : ◌≡◌ {A = ℕ} 0 1 = cc in absurd (omega arith)
-told_once Malformed Malformed p = refl
+told_once : (r s : Parsed) → found_answer r ≡ found_answer s → r ≡ s
+told_once (Some p) (Some q) e = cc
+told_once (Some p) None e = cc
+told_once None (Some q) e = cc
+told_once None None e = refl
 
 -- what meets `Answers` has the answer of `parse`, and what has that answer meets `Answers`
-pub parsed_from_lem : (input : List ℕ) (r : Parsed) → Answers input r → parsed_answer r ≡ parsed_from input
-parsed_from_lem input r a = ap parsed_answer (parsed_once input r (parsed_of input) a (parsed_answers input))
+pub parsed_from_lem : (input : List ℕ) (r : Parsed) → Answers input r → found_answer r ≡ parsed_from input
+parsed_from_lem input r a = ap found_answer (parsed_once input r (parsed_of input) a (parsed_answers input))
 
-pub picture_from : (input : List ℕ) {w h at : ℕ} → Answers input (Picture w h at)
-    → accepted (record { width = w; height = h; start = at }) ≡ parsed_from input
-picture_from input {w} {h} {at} a = parsed_from_lem input (Picture w h at) a
+pub picture_from : (input : List ℕ) (p : PictureFound) → Answers input (Some p) → accepted p ≡ parsed_from input
+picture_from input p a = parsed_from_lem input (Some p) a
 
-pub parsed_means : (input : List ℕ) (r : Parsed) → parsed_answer r ≡ parsed_from input → Answers input r
+pub parsed_means : (input : List ℕ) (r : Parsed) → found_answer r ≡ parsed_from input → Answers input r
 parsed_means input r e =
     subst (λ (p : Parsed). Answers input p) (sym (told_once r (parsed_of input) e)) (parsed_answers input)
 
--- the same of s, once it is known to be what `parse` returned
-pub parsed_as : (input : List ℕ) {r s : Parsed} → r ≡ s → parsed_answer r ≡ parsed_from input → Answers input s
-parsed_as input {s = s} e a = parsed_means input s (ap parsed_answer (sym e) ∙ a)
+-- the pixels of a picture are what follows the header
+pub pixels_from : (input : List ℕ) (p : PictureFound) → Answers input (Some p) →
+    p.pixels ≡ drop (length (header p.width p.height)) input
+pixels_from input p a = a.same ∙ sym (after_header input p.width p.height a.form)
+
+-- the same of what `parse` returned, once it is known what that is
+pub parsed_as : (input : List ℕ) {r s : Result Picture Malformed} → r ≡ s → parsed_answer r ≡ parsed_from input →
+    Answers input (found s)
+parsed_as input {s = s} e a = parsed_means input (found s) (ap parsed_answer (sym e) ∙ a)
 
 -- anything that is made of what is parsed is made of any r that meets `Answers`
-pub parsed_by : {A : Type 0} (by : Parsed → List ℕ → A) (input : List ℕ) (r : Parsed) → Answers input r →
-    by (parsed_of input) input ≡ by r input
-parsed_by by input r a = ap (λ (p : Parsed). by p input) (parsed_once input (parsed_of input) r (parsed_answers input) a)
+pub parsed_by : {A : Type 0} (by : Parsed → A) (input : List ℕ) (r : Parsed) → Answers input r →
+    by (parsed_of input) ≡ by r
+parsed_by by input r a = ap by (parsed_once input (parsed_of input) r (parsed_answers input) a)
 
 -- ---- the first bytes are enough
 
--- the first m bytes of an input are all of it, or neither they nor the input are a picture
-module _ (input : List ℕ) (m : ℕ) (enough : input_limit ≤ m) where
-  start : (take m input ≡ input) ⊎ (Answers input Malformed × Answers (take m input) Malformed)
-  start = go (ltb m (length input)) refl
-    where
-      go : (b : Bool) → ltb m (length input) ≡ b →
-          (take m input ≡ input) ⊎ (Answers input Malformed × Answers (take m input) Malformed)
-      go false e = inl (take_all m input (ltb-false m (length input) e))
-      go true e =
-          let l = ltb-true m (length input) e in
-          let t = length-take-le m input (omega arith) in
-          inr (
-            (λ w h f. omega (arith, form_short input w h f)),
-            (λ w h f. omega (arith, form_short (take m input) w h f, t)),
-          )
-
-  -- so anything that is made of what is parsed, and is the same for all inputs that are no picture, is that of the
-  -- first bytes
-  pub start_parsed : {A : Type 0} (by : Parsed → List ℕ → A) → ((a b : List ℕ) → by Malformed a ≡ by Malformed b) →
-      by (parsed_of (take m input)) (take m input) ≡ by (parsed_of input) input
-  start_parsed by same =
-      ⊎_elim (λ e. ap (λ (l : List ℕ). by (parsed_of l) l) e)
-      (λ none.
-      parsed_by by (take m input) Malformed none.1 ∙ same (take m input) input
-      ∙ sym (parsed_by by input Malformed none.0))
-      start
+-- the first m bytes of an input are parsed as the whole: they are all of it, or neither they nor the input are a picture
+pub start_parsed : (input : List ℕ) (m : ℕ) → input_limit ≤ m → parsed_of (take m input) ≡ parsed_of input
+start_parsed input m enough = go (ltb m (length input)) refl
+  where
+    go : (b : Bool) → ltb m (length input) ≡ b → parsed_of (take m input) ≡ parsed_of input
+    go false e = ap parsed_of (take_all m input (ltb-false m (length input) e))
+    go true e =
+        let l = ltb-true m (length input) e in
+        let t = length-take-le m input (omega arith) in
+        let none : Answers input None = λ w h f. omega (arith, form_short input w h f) in
+        let first : Answers (take m input) None = λ w h f. omega (arith, form_short (take m input) w h f, t) in
+        parsed_by (λ (r : Parsed). r) (take m input) None first ∙ sym (parsed_by (λ (r : Parsed). r) input None none)

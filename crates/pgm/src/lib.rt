@@ -2,12 +2,25 @@
 // w × h bytes, and any other form is refused; an answer is one line of decimal text. No public call has a condition.
 #![tactic(auto)]
 
-ghost use Rattle.std.specs.Prelude.{◌+◌, ◌≤◌, ◌≡◌, [], ◌∷◌, ◌++◌, length, get_or};
+ghost use Rattle.std.specs.Prelude.{◌+◌, ◌≤◌, ◌≡◌, [], ◌∷◌, ◌++◌, length, None, MatchOption, option_map};
 ghost use Rattle.pgm.specs.Decimal.{decimal};
-ghost use Rattle.pgm.specs.Form.{parsed_answer};
+ghost use Rattle.pgm.specs.Form.{values, parsed_answer, parsed_number, Answers};
 ghost use Rattle.pgm.specs.Parse.{parsed_from};
 ghost use Rattle.pgm.specs.Line.{line, refused_line, Writes};
-ghost use Rattle.pgm.specs.Steps.{Digit, Stands, ReadsSide, ReadsHeader, Puts, three};
+ghost use Rattle.pgm.specs.Steps.{NoSide, Sided, Puts};
+
+mod picture;
+
+use image::Refusal;
+pub use picture::{Malformed, Picture};
+
+impl Refusal for Malformed {
+    ghost number_of = { λ _. parsed_number None };
+
+    fn number(self) -> u32 {
+        11
+    }
+}
 
 // The largest side that is accepted.
 pub const SIDE_LIMIT: usize = 60;
@@ -15,157 +28,90 @@ pub const SIDE_LIMIT: usize = 60;
 // The length of a buffer that holds any line.
 pub const LINE_ROOM: usize = 128;
 
-// What `parse` answers: the width, the height and where the pixels start; or that the input has another form.
-#[derive(Clone, Copy)]
-pub enum Parsed {
-    Picture(usize, usize, usize),
-    Malformed,
-}
-
-// What `read_side` answers: a side and the place after the space that ends it; or that no side stands there.
-#[derive(Clone, Copy)]
-enum Side {
-    Number(usize, usize),
-    Malformed,
-}
-
-// Gives the byte at a place, and 256 past the end.
-fn byte_at(input: &[u8], at: usize) -> usize
-    ensures { result ≡ get_or input.now at 256 }
+// Reads the side that a text begins with and the space that ends it, and hands out what follows. One or two digits are
+// enough for the limit.
+fn read_side(text: &[u8]) -> Option<(usize, &[u8])>
+    ensures { MatchOption result (NoSide text.now) (λ p. Sided text.now p.0 p.1.now) }
 {
-    if at < input.len() {
-        input[at] as usize
-    } else {
-        256
-    }
-}
-
-// Gives the digit at a place, and 10 where no digit stands.
-fn digit_at(input: &[u8], at: usize) -> usize
-    ensures { Digit (get_or input.now at 256) result }
-{
-    let byte = byte_at(input, at);
-    if byte < 48 {
-        return 10;
-    }
-    if 57 < byte {
-        return 10;
-    }
-    byte - 48
-}
-
-// Tells whether a text stands at a place.
-fn stands(input: &[u8], at: usize, text: &[u8]) -> bool
-    requires { at ≤ length input.now }
-    ensures { Stands input.now at text.now result }
-{
-    if input.len() - at < text.len() {
-        return false;
-    }
-    let mut i = 0;
-    while i < text.len() {
-        if input[at + i] != text[i] {
-            return false;
+    match text {
+        [ones @ b'0'..=b'9', b' ', rest @ ..] => Some((usize::from(*ones - b'0'), rest)),
+        [tens @ b'1'..=b'9', ones @ b'0'..=b'9', b' ', rest @ ..] => {
+            let side = usize::from(*tens - b'0') * 10 + usize::from(*ones - b'0');
+            if side <= SIDE_LIMIT {
+                Some((side, rest))
+            } else {
+                None
+            }
         }
-        i += 1;
+        _ => None,
     }
-    true
 }
 
-// Reads the side at a place and the space that ends it. One or two digits are enough for the limit.
-fn read_side(input: &[u8], at: usize) -> Side
-    requires { at ≤ length input.now }
-    ensures { ReadsSide input.now at result }
+// Reads the picture that an input is.
+fn read_picture(input: &[u8]) -> Option<Picture<'_>>
+    ensures { Answers input.now (option_map values result) }
 {
-    let first = digit_at(input, at);
-    if first == 10 {
-        return Side::Malformed;
+    let rest = input.strip_prefix(b"P5 ")?;
+    let (width, rest) = read_side(rest)?;
+    let (height, rest) = read_side(rest)?;
+    let pixels = rest.strip_prefix(b"255\n")?;
+    if pixels.len() != width * height {
+        return None;
     }
-    if byte_at(input, at + 1) == 32 {
-        return Side::Number(first, at + 2);
-    }
-    let second = digit_at(input, at + 1);
-    if second == 10 {
-        return Side::Malformed;
-    }
-    if first == 0 {
-        return Side::Malformed;
-    }
-    if byte_at(input, at + 2) != 32 {
-        return Side::Malformed;
-    }
-    let side = first * 10 + second;
-    if SIDE_LIMIT < side {
-        return Side::Malformed;
-    }
-    Side::Number(side, at + 3)
+    Some(Picture {
+        width,
+        height,
+        pixels,
+    })
 }
 
-// Reads the sides that a header names, and tells where the header ends.
-fn read_header(input: &[u8]) -> Parsed
-    ensures { ReadsHeader input.now result }
-{
-    if !stands(input, 0, b"P5 ") {
-        return Parsed::Malformed;
-    }
-    let Side::Number(width, after) = read_side(input, 3) else {
-        return Parsed::Malformed;
-    };
-    let Side::Number(height, last) = read_side(input, after) else {
-        return Parsed::Malformed;
-    };
-    if !stands(input, last, b"255\n") {
-        return Parsed::Malformed;
-    }
-    Parsed::Picture(width, height, last + 4)
-}
-
-// Parses an input: gives the sides of the picture that it is and where its pixels start, or tells that it has another
-// form.
-pub fn parse(input: &[u8]) -> Parsed
+// Parses an input: gives the picture that it is, or tells that it has another form.
+#[tactic(auto, using(crate::specs::ParseLaws::parsed_from_lem))]
+pub fn parse(input: &[u8]) -> Result<Picture<'_>, Malformed>
     ensures { parsed_answer result ≡ parsed_from input.now }
 {
-    let Parsed::Picture(width, height, at) = read_header(input) else {
-        return Parsed::Malformed;
-    };
-    if input.len() - at != width * height {
-        return Parsed::Malformed;
+    read_picture(input).ok_or(Malformed)
+}
+
+// The numbers of a reading's line.
+#[derive(Clone, Copy)]
+pub struct Counts {
+    pub width: u64,
+    pub height: u64,
+    pub dark: u64,
+    pub light: u64,
+    pub skipped: u64,
+    pub comparisons: u64,
+}
+
+impl Counts {
+    // Writes the line of the counts, and answers its length. A buffer of less than LINE_ROOM bytes is left as it is.
+    pub fn line(self, out: &mut [u8]) -> Option<usize>
+        ensures { Writes (line (self.width ∷ self.height ∷ self.dark ∷ self.light ∷ self.skipped ∷ self.comparisons ∷ []))
+            out.old result out.new }
+    {
+        if out.len() < LINE_ROOM {
+            return None;
+        }
+        let at = put_field(out, 0, self.width, b' ');
+        let at = put_field(out, at, self.height, b' ');
+        let at = put_field(out, at, self.dark, b' ');
+        let at = put_field(out, at, self.light, b' ');
+        let at = put_field(out, at, self.skipped, b' ');
+        Some(put_field(out, at, self.comparisons, b'\n'))
     }
-    Parsed::Picture(width, height, at)
 }
 
-// Writes the decimal text of a number at a place, and answers the place after it.
-fn put_number(out: &mut [u8], at: usize, number: u64) -> usize
-    requires { at + length (decimal number) ≤ length out.old }
-    ensures { Puts (decimal number) at out.old result out.new }
+// Writes the line of a refusal, and answers its length. A buffer of less than LINE_ROOM bytes is left as it is.
+#[tactic(auto, using(crate::proofs::Writing::writing))]
+pub fn refused_line(number: u32, out: &mut [u8]) -> Option<usize>
+    ensures { Writes (refused_line number) out.old result out.new }
 {
-    if number < 10 {
-        out[at] = 48 + number as u8;
-        return at + 1;
+    if out.len() < LINE_ROOM {
+        return None;
     }
-    let last = put_number(out, at, number / 10);
-    out[last] = 48 + (number % 10) as u8;
-    last + 1
-}
-
-// Writes a number and the byte that follows it, and answers the place after them.
-fn put_field(out: &mut [u8], at: usize, number: u64, end: u8) -> usize
-    requires { at + 21 ≤ length out.old }
-    ensures { Puts (decimal number ++ (end ∷ [])) at out.old result out.new }
-{
-    let next = put_number(out, at, number);
-    out[next] = end;
-    next + 1
-}
-
-// Writes three numbers with spaces between and the byte that follows them, and answers the place after that.
-fn put_three(out: &mut [u8], at: usize, a: u64, b: u64, c: u64, end: u8) -> usize
-    requires { at + 63 ≤ length out.old }
-    ensures { Puts (three a b c end) at out.old result out.new }
-{
-    let second = put_field(out, at, a, 32);
-    let third = put_field(out, second, b, 32);
-    put_field(out, third, c, end)
+    let at = put_text(out, b"refused ");
+    Some(put_field(out, at, u64::from(number), b'\n'))
 }
 
 // Writes a text at the start of a buffer, and answers the place after it.
@@ -173,43 +119,35 @@ fn put_text(out: &mut [u8], text: &[u8]) -> usize
     requires { length text.now ≤ length out.old }
     ensures { Puts text.now 0 out.old result out.new }
 {
-    let mut i = 0;
-    while i < text.len() {
-        out[i] = text[i];
-        i += 1;
-    }
-    i
+    out[..text.len()].copy_from_slice(text);
+    text.len()
 }
 
-// Writes the line of a reading's counts, and answers its length. A buffer of less than LINE_ROOM bytes is left as it
-// is, and the answer is 0.
-pub fn counts_line(
-    width: u64,
-    height: u64,
-    dark: u64,
-    light: u64,
-    skipped: u64,
-    comparisons: u64,
-    out: &mut [u8],
-) -> usize
-    ensures { Writes (line (width ∷ height ∷ dark ∷ light ∷ skipped ∷ comparisons ∷ []))
-        out.old result out.new }
+// Writes a number and the byte that follows it at a place, and answers the place after them. A number has at most 20
+// digits.
+#[tactic(auto, using(crate::proofs::Writing::writing))]
+fn put_field(out: &mut [u8], at: usize, number: u64, end: u8) -> usize
+    requires { at + 21 ≤ length out.old }
+    ensures puts { Puts (decimal number ++ (end ∷ [])) at out.old result out.new }
+    ensures near { result ≤ at + 21 }
 {
-    if out.len() < LINE_ROOM {
-        return 0;
-    }
-    let half = put_three(out, 0, width, height, dark, 32);
-    put_three(out, half, light, skipped, comparisons, 10)
+    let next = put_number(out, at, number);
+    out[next] = end;
+    next + 1
 }
 
-// Writes the line of a refusal, and answers its length. A buffer of less than LINE_ROOM bytes is left as it is, and the
-// answer is 0.
-pub fn refused_line(number: u32, out: &mut [u8]) -> usize
-    ensures { Writes (refused_line number) out.old result out.new }
+// Writes the decimal text of a number at a place, and answers the place after it. std's `write!` promises the text only
+// where it answers Ok, and nothing promises that it does: a line could be lost.
+#[tactic(auto, using(crate::proofs::Writing::writing))]
+fn put_number(out: &mut [u8], at: usize, number: u64) -> usize
+    requires { at + length (decimal number) ≤ length out.old }
+    ensures { Puts (decimal number) at out.old result out.new }
 {
-    if out.len() < LINE_ROOM {
-        return 0;
+    if number < 10 {
+        out[at] = b'0' + number as u8;
+        return at + 1;
     }
-    let next = put_text(out, b"refused ");
-    put_field(out, next, number as u64, 10)
+    let last = put_number(out, at, number / 10);
+    out[last] = b'0' + (number % 10) as u8;
+    last + 1
 }

@@ -1,115 +1,117 @@
-// Fills the slices that are lent to a call, and compares them afterwards. They hold bytes that stand in the list, or
-// else noise. rust/vectors/src/list.rs makes the same noise.
-use std::num::{wrapping_add_usize, wrapping_sub_usize};
+// Makes what the lent slices hold before a call, and compares what they hold afterwards: bytes that stand in the list,
+// or else noise. rust/vectors/src/list.rs makes the same noise.
+use crate::numbers::narrow;
+use std::alloc::{AllocError, Global};
+use std::iter;
+use std::marker::PhantomData;
 
-// The part of a case's numbers that lists a slice, from one place to another. An empty part stands for noise.
+// An element of a lent slice, which a state of the noise can give.
+pub trait Element: PartialEq + Drop {
+    fn from_state(state: u32) -> Self;
+}
+
+impl Element for u8 {
+    fn from_state(state: u32) -> u8 {
+        (state >> 24) as u8
+    }
+}
+
+// Both halves of a u64 are the state.
+impl Element for u64 {
+    fn from_state(state: u32) -> u64 {
+        u64::from(state) * 4294967297
+    }
+}
+
+// The noise of a seed: an element for each state, without end. It holds the last state.
+#[derive(Drop)]
+struct Noise<T> {
+    state: u32,
+    elements: PhantomData<T>,
+}
+
+impl<T: Element> Noise<T> {
+    fn new(seed: u32) -> Noise<T> {
+        Noise {
+            state: seed.wrapping_mul(2654435761),
+            elements: PhantomData,
+        }
+    }
+}
+
+impl<T: Element> Iterator for Noise<T> {
+    type Item = T;
+
+    fn next(&mut self) -> Option<T> {
+        self.state = self.state.wrapping_mul(1664525).wrapping_add(1013904223);
+        Some(T::from_state(self.state))
+    }
+}
+
+// Makes the noise of a seed, of a length.
+pub fn make_noise<T: Element>(
+    alloc: Global,
+    seed: u32,
+    length: usize,
+) -> Result<Vec<T>, AllocError> {
+    Noise::new(seed).take(length).collect(alloc)
+}
+
+// Tests whether a slice holds the noise of a seed.
+pub fn is_noise<T: Element>(data: &[T], seed: u32) -> bool {
+    data.iter()
+        .zip(Noise::new(seed))
+        .all(|(held, made)| *held == made)
+}
+
+// What a slice of bytes holds: the numbers that a section of the list gives, or the noise of a seed.
 #[derive(Clone, Copy)]
-pub struct Part(pub usize, pub usize);
-
-// Gives the first state of a seed's noise.
-fn start(seed: usize) -> usize {
-    seed % 4294967296 * 2654435761 % 4294967296
+pub enum Content<'a> {
+    Listed(&'a [usize]),
+    Noise(u32),
 }
 
-// Gives the state that follows a state.
-fn step(state: usize) -> usize {
-    (state % 4294967296 * 1664525 + 1013904223) % 4294967296
-}
-
-// Makes a u64 of noise, both halves of which are the state.
-fn noise_u64(state: usize) -> u64 {
-    (state % 4294967296 * 4294967297) as u64
-}
-
-// Gives what byte i should be; past the end of its part 256, which no byte is.
-fn listed(numbers: &[usize], part: Part, i: usize, state: usize) -> usize {
-    let end = part.1;
-    let at = wrapping_add_usize(part.0, i);
-    if part.0 == end {
-        return state / 16777216 % 256;
-    }
-    if at < end {
-        if at < numbers.len() {
-            return numbers[at];
+impl<'a> Content<'a> {
+    // Gives what a section stands for. One with no numbers stands for noise.
+    pub fn of(section: &'a [usize], seed: u32) -> Content<'a> {
+        if section.is_empty() {
+            Content::Noise(seed)
+        } else {
+            Content::Listed(section)
         }
     }
-    256
-}
 
-// Gives a number as a byte, and 0 where it is larger.
-pub fn byte(value: usize) -> u8 {
-    if value > 255 {
-        return 0;
-    }
-    value as u8
-}
-
-pub fn wide(x: u8) -> usize {
-    x as usize
-}
-
-// Fills a slice with the bytes of its part, or with the noise of a seed.
-pub fn fill(data: &mut [u8], numbers: &[usize], part: Part, seed: usize) {
-    let mut state = start(seed);
-    let mut i = 0;
-    while i < data.len() {
-        state = step(state);
-        data[i] = byte(listed(numbers, part, i, state));
-        i += 1;
-    }
-}
-
-// Tests whether a part is as long as the slice that it lists.
-fn fits(part: Part, length: usize) -> bool {
-    part.0 == part.1 || wrapping_sub_usize(part.1, part.0) == length
-}
-
-// Tests whether a slice holds the bytes of its part, or the noise of a seed.
-pub fn same(data: &[u8], numbers: &[usize], part: Part, seed: usize) -> bool {
-    let mut right = fits(part, data.len());
-    let mut state = start(seed);
-    let mut i = 0;
-    while i < data.len() {
-        state = step(state);
-        right = right && wide(data[i]) == listed(numbers, part, i, state);
-        i += 1;
-    }
-    right
-}
-
-// Fills a u64 workspace with the noise of a seed.
-pub fn fill_u64s(data: &mut [u64], seed: usize) {
-    let mut state = start(seed);
-    let mut i = 0;
-    while i < data.len() {
-        state = step(state);
-        data[i] = noise_u64(state);
-        i += 1;
-    }
-}
-
-// Tests whether a u64 workspace holds the noise of a seed.
-pub fn same_u64s(data: &[u64], seed: usize) -> bool {
-    let mut right = true;
-    let mut state = start(seed);
-    let mut i = 0;
-    while i < data.len() {
-        state = step(state);
-        right = right && data[i] == noise_u64(state);
-        i += 1;
-    }
-    right
-}
-
-// Copies as many bytes as both slices have, and returns their number.
-pub fn copy(from: &[u8], to: &mut [u8]) -> usize {
-    let mut i = 0;
-    while i < from.len() {
-        if i >= to.len() {
-            break;
+    // Makes a slice of a length. It has zeros where its section ends before it.
+    pub fn make(self, alloc: Global, length: usize) -> Result<Vec<u8>, AllocError> {
+        match self {
+            Content::Noise(seed) => make_noise(alloc, seed, length),
+            Content::Listed(numbers) => numbers
+                .iter()
+                .map(|number| narrow(*number))
+                .chain(iter::repeat(0))
+                .take(length)
+                .collect(alloc),
         }
-        to[i] = from[i];
-        i += 1;
     }
-    i
+
+    // Tests whether a slice holds this, and no more and no less.
+    pub fn is(self, data: &[u8]) -> bool {
+        match self {
+            Content::Noise(seed) => is_noise(data, seed),
+            Content::Listed(numbers) => data
+                .iter()
+                .map(|byte| usize::from(*byte))
+                .eq(numbers.iter().copied()),
+        }
+    }
+}
+
+// What a call is lent: a source, two destinations, a byte workspace and a u64 workspace.
+#[derive(Drop)]
+pub struct Lent {
+    pub from: Vec<u8>,
+    pub to: Vec<u8>,
+    pub other: Vec<u8>,
+    pub bytes: Vec<u8>,
+    pub u64s: Vec<u64>,
 }

@@ -1,107 +1,78 @@
 // Makes the public calls, each by the number that a list gives it.
-use crate::reply::Answer;
+use crate::buffers::Lent;
+use crate::numbers::narrow;
+use crate::reply::{Answer, told};
+use crate::settings;
 use crate::settings::Numbers;
-use crate::{buffers, reply, settings};
 use image::Geometry;
 use imgproc::grid::TileThresholdGrid;
 use imgproc::{illumination, morphology, reading, threshold};
 
+// Copies as many bytes as both slices have, and returns their number.
+fn copy(from: &[u8], to: &mut [u8]) -> usize {
+    let length = from.len().min(to.len());
+    to[..length].copy_from_slice(&from[..length]);
+    length
+}
+
 // Copies the row that is handed out to the other slice.
 fn row(g: Geometry, y: usize, from: &[u8], to: &mut [u8]) -> Answer {
-    let number = image::layout_number(image::check_row(from.len(), g, y));
-    let copied = buffers::copy(image::row(from, g, y), to);
+    let number = image::answer_number(image::check_row(from.len(), g, y));
+    let copied = copy(image::row(from, g, y), to);
     [number as usize, copied, 0, 0, 0]
 }
 
 // Writes the other slice through the row that is handed out.
 fn row_mut(g: Geometry, y: usize, from: &[u8], to: &mut [u8]) -> Answer {
-    let number = image::layout_number(image::check_row(to.len(), g, y));
-    let copied = buffers::copy(from, image::row_mut(to, g, y));
+    let number = image::answer_number(image::check_row(to.len(), g, y));
+    let copied = copy(from, image::row_mut(to, g, y));
     [number as usize, copied, 0, 0, 0]
 }
 
-fn picture(f: Numbers, from: &[u8], to: &mut [u8]) -> Answer {
+// Makes the call of the first number. These numbers stand in the lists, and here alone: an enum of the calls would only
+// repeat the names of the functions. The program's answer has no number: its list says whether the call leaves all but
+// the line as it was. A number with no call is refused by 999, which no call answers.
+pub fn call(f: Numbers, lent: &mut Lent) -> Answer {
+    let Lent {
+        from,
+        to,
+        other,
+        bytes,
+        u64s,
+    } = lent;
     let g = settings::source(f);
-    let a = f[4];
-    let b = f[5];
-    let which = f[0];
+    let h = settings::destination(f);
+    let s = settings::division(f);
+    let grid = settings::built(f);
+    let [which, line, _, _, a, b, c, k, y, ..] = f;
     match which {
-        0 => reply::numbered(image::layout_number(image::validate_layout(a, g))),
-        1 => reply::numbered(image::layout_number(image::check_pixel(a, g, b, f[6]))),
-        2 => reply::numbered(image::layout_number(image::check_row(a, g, b))),
-        3 => reply::pixel(image::get(from, g, a, b)),
-        4 => reply::written(image::set(to, g, a, b, buffers::byte(f[6]))),
+        0 => told(image::validate_layout(a, g)),
+        1 => told(image::check_pixel(a, g, b, c)),
+        2 => told(image::check_row(a, g, b)),
+        3 => told(image::get(from, g, a, b)),
+        4 => told(image::set(to, g, a, b, narrow(c))),
         5 => row(g, a, from, to),
         6 => row_mut(g, a, from, to),
-        7 => reply::numbered(image::copied_number(image::pack(from, g, to, a))),
-        _ => reply::numbered(image::copied_number(image::unpack(from, a, to, g))),
-    }
-}
-
-fn compared(f: Numbers, from: &[u8], to: &mut [u8], bytes: &mut [u8]) -> Answer {
-    let g = settings::source(f);
-    let h = settings::destination(f);
-    let k = f[7];
-    let s = settings::division(f);
-    let which = f[0];
-    match which {
-        9 => reply::compared(morphology::grayscale_erode_into(from, g, to, h, k, bytes)),
-        10 => reply::compared(morphology::grayscale_dilate_into(from, g, to, h, k, bytes)),
-        11 => reply::compared(morphology::grayscale_open_into(from, g, to, h, k, bytes)),
-        12 => reply::compared(morphology::grayscale_close_into(from, g, to, h, k, bytes)),
-        _ => reply::compared(illumination::background_divide_into(from, g, to, h, s, bytes)),
-    }
-}
-
-fn sauvola(f: Numbers, from: &[u8], to: &mut [u8], u64s: &mut [u64]) -> Answer {
-    let g = settings::source(f);
-    let h = settings::destination(f);
-    let s = settings::window(f[7], f[8], f[9], f[10], f[11]);
-    reply::binarized(threshold::sauvola_into(from, g, to, h, s, u64s))
-}
-
-fn build(f: Numbers, from: &[u8], to: &mut [u8], other: &mut [u8], u64s: &mut [u64]) -> Answer {
-    let g = settings::source(f);
-    let s = settings::grid(f);
-    reply::built(TileThresholdGrid::build(from, g, s, u64s, to, other))
-}
-
-fn query(f: Numbers, from: &[u8]) -> Answer {
-    let g = settings::built(f);
-    let which = f[0];
-    match which {
-        16 => reply::threshold(g.threshold_at(from, f[7], f[8])),
-        17 => reply::skip(g.is_skip(from, f[7], f[8])),
-        _ => reply::skip(g.row_all_skip(from, f[8])),
-    }
-}
-
-fn read(f: Numbers, from: &[u8], to: &mut [u8], bytes: &mut [u8], u64s: &mut [u64]) -> Answer {
-    let g = settings::source(f);
-    let h = settings::destination(f);
-    let s = settings::reading(f);
-    reply::read(reading::reading(from, g, to, h, s, bytes, u64s))
-}
-
-// Makes the call of the first number. The program's answer has no number: its list says whether the call leaves all but
-// the line as it was.
-pub fn call(
-    f: Numbers,
-    from: &[u8],
-    to: &mut [u8],
-    other: &mut [u8],
-    bytes: &mut [u8],
-    u64s: &mut [u64],
-) -> Answer {
-    let which = f[0];
-    match which {
-        0..=8 => picture(f, from, to),
-        9..=13 => compared(f, from, to, bytes),
-        14 => sauvola(f, from, to, u64s),
-        15 => build(f, from, to, other, u64s),
-        16..=18 => query(f, from),
-        19 => read(f, from, to, bytes, u64s),
-        20 => [f[1], answer::answer(from, to, bytes, u64s, other), 0, 0, 0],
-        _ => reply::numbered(999),
+        7 => told(image::pack(from, g, to, a)),
+        8 => told(image::unpack(from, a, to, g)),
+        9 => told(morphology::grayscale_erode_into(from, g, to, h, k, bytes)),
+        10 => told(morphology::grayscale_dilate_into(from, g, to, h, k, bytes)),
+        11 => told(morphology::grayscale_open_into(from, g, to, h, k, bytes)),
+        12 => told(morphology::grayscale_close_into(from, g, to, h, k, bytes)),
+        13 => told(illumination::background_divide_into(from, g, to, h, s, bytes)),
+        14 => told(threshold::sauvola_into(from, g, to, h, settings::sauvola(f), u64s)),
+        15 => told(TileThresholdGrid::build(from, g, settings::grid(f), u64s, to, other)),
+        16 => told(grid.threshold_at(from, k, y)),
+        17 => told(grid.is_skip(from, k, y)),
+        18 => told(grid.row_all_skip(from, y)),
+        19 => told(reading::reading(from, g, to, h, settings::reading(f), bytes, u64s)),
+        20 => [
+            line,
+            answer::answer(from, to, bytes, u64s, other).unwrap_or(0),
+            0,
+            0,
+            0,
+        ],
+        _ => [999, 0, 0, 0, 0],
     }
 }

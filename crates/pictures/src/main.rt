@@ -17,20 +17,14 @@ use std::{env, fs, io};
 // Every list is shorter than this.
 const LONGEST: usize = 131072;
 
-fn report(rt: &impl Print, name: &str, score: Score) -> io::Result<()> {
-    print!(rt; "{name} cases {} wrong {}", score.cases, score.wrong)?;
-    if score.wrong > 0 {
-        print!(rt; " first at line {}", score.first)?;
-    }
-    rt.println("")
-}
-
 fn run(rt: &(impl Files + Print + AllocGlobal), name: &str) -> io::Result<()> {
     let text = fs::read(rt, name)?;
-    if text.len() >= LONGEST {
-        return report(rt, name, replay::unread());
-    }
-    report(rt, name, replay::replay(&text))
+    let score = if text.len() < LONGEST {
+        replay::replay(rt.alloc(), &text)?
+    } else {
+        Score::UNREAD
+    };
+    println!(rt; "{name} {score}")
 }
 
 fn main(rt: HostRuntime) -> io::Result<()> {

@@ -1,126 +1,56 @@
 // Reads the text of a list: each line is a case, ';' separates its sections, and spaces separate the numbers of a
 // section. Empty lines and lines that begin with '#' hold no case.
-use std::num::wrapping_add_usize;
+use std::alloc::{AllocError, Global};
 
-// A reader knows the next byte, the place of its next number in the array, what it has read of that number, and whether
-// the text had the form so far.
-#[derive(Clone, Copy)]
-pub struct Reader {
-    pub at: usize,
-    pub count: usize,
-    value: usize,
-    open: bool,
-    pub good: bool,
+// Says why a line gives no case.
+#[derive(Clone, Copy, Debug)]
+pub enum Unread {
+    Malformed,
+    OutOfMemory(AllocError),
 }
 
-// Begins a reader at a place, for an array of its own; `good` says that the text had the form so far.
-pub fn begin(at: usize, good: bool) -> Reader {
-    Reader {
-        at: at,
-        count: 0,
-        value: 0,
-        open: false,
-        good: good,
+impl From<AllocError> for Unread {
+    fn from(error: AllocError) -> Unread {
+        Unread::OutOfMemory(error)
     }
 }
 
-// Moves the reader behind the number of which it has read a digit.
-fn closed(r: Reader) -> Reader {
-    let mut next = r;
-    if r.open {
-        next.count = wrapping_add_usize(r.count, 1);
-    }
-    next.value = 0;
-    next.open = false;
-    next
+fn with_digit(value: usize, byte: &u8) -> Result<usize, Unread> {
+    let digit = char::from(*byte).to_digit(10).ok_or(Unread::Malformed)?;
+    value
+        .checked_mul(10)
+        .and_then(|tens| tens.checked_add(digit as usize))
+        .ok_or(Unread::Malformed)
 }
 
-fn bad(r: Reader) -> Reader {
-    let mut next = r;
-    next.good = false;
-    next
+fn number(word: &[u8]) -> Result<usize, Unread> {
+    word.iter().try_fold(0, with_digit)
 }
 
-fn with_digit(r: Reader, digit: usize) -> Reader {
-    let value = r.value;
-    if value > 1844674407370955161 {
-        return bad(r);
-    }
-    let tens = value * 10;
-    if digit > 18446744073709551615 - tens {
-        return bad(r);
-    }
-    let mut next = r;
-    next.value = tens + digit;
-    next.open = true;
-    next
+// Reads the numbers of a section.
+pub fn numbers(alloc: Global, section: &[u8]) -> Result<Vec<usize>, Unread> {
+    section
+        .split(|byte| *byte == b' ')
+        .filter(|word| !word.is_empty())
+        .map(number)
+        .try_collect(alloc)
 }
 
-fn with_byte(r: Reader, byte: u8) -> Reader {
-    match byte {
-        b' ' => closed(r),
-        b'0'..=b'9' => with_digit(r, byte as usize - 48),
-        _ => bad(r),
+// Reads a section of at most as many numbers as the array has. Zeros stand for those that it leaves out.
+pub fn array<const N: usize>(alloc: Global, section: &[u8]) -> Result<[usize; N], Unread> {
+    let read = numbers(alloc, section)?;
+    if read.len() > N {
+        return Err(Unread::Malformed);
     }
+    let mut array = [0; N];
+    array[..read.len()].copy_from_slice(&read);
+    Ok(array)
 }
 
-fn put(out: &mut [usize], i: usize, value: usize) {
-    if i < out.len() {
-        out[i] = value;
-    }
-}
-
-// Ends a section, which is bad where its numbers do not fit into the array.
-fn ended(r: Reader, at: usize, room: usize) -> Reader {
-    let mut next = closed(r);
-    next.at = at;
-    if next.count > room {
-        return bad(next);
-    }
-    next
-}
-
-// Reads the numbers of a section; a section behind the line's end has none.
-pub fn section(text: &[u8], r: Reader, out: &mut [usize]) -> Reader {
-    let mut reader = r;
-    let mut at = r.at;
-    while at < text.len() {
-        let byte = text[at];
-        if byte == b'\n' {
-            break;
-        }
-        at += 1;
-        if byte == b';' {
-            break;
-        }
-        reader = with_byte(reader, byte);
-        put(out, reader.count, reader.value);
-    }
-    ended(reader, at, out.len())
-}
-
-// Gives the byte at a place, and a line feed past the end.
-pub fn byte_at(text: &[u8], at: usize) -> u8 {
-    if at < text.len() {
-        return text[at];
-    }
-    b'\n'
-}
-
-// Tests whether a line had the form, and is read to its end.
-pub fn whole(text: &[u8], r: Reader) -> bool {
-    r.good && byte_at(text, r.at) == b'\n'
-}
-
-// Finds the place behind the line that holds a place.
-pub fn next_line(text: &[u8], from: usize) -> usize {
-    let mut at = from;
-    while at < text.len() {
-        let byte = text[at];
-        at += 1;
-        if byte == b'\n' {
-            break;
-        }
-    }
-    at
+// Gives a number as a narrower one, and 0 where it does not fit.
+pub fn narrow<T: TryFrom<usize> + Default>(value: usize) -> T
+where
+    <T as TryFrom<usize>>::Error: Drop,
+{
+    T::try_from(value).unwrap_or_default()
 }

@@ -1,69 +1,66 @@
 // Replays the cases of a list, and counts those that come out wrong. A malformed line is a wrong case.
-use crate::{case, numbers};
-use std::num::wrapping_add_usize;
+ghost use Rattle.std.specs.Prelude.{◌≡◌, ◌+◌, ◌<◌, ◌≤◌};
 
-// Counts the lines that were read, the cases in them and the wrong ones, and keeps the line of the first wrong one. The
-// noise of a case has five seeds, and the first is eight above that of the case before it.
-#[derive(Clone, Copy)]
+use crate::case;
+use std::alloc::{AllocError, Global};
+use std::fmt;
+
+// The score of a list: its cases, how many of them were wrong, and the line of the first of those.
+#[derive(Clone, Copy, Default)]
 pub struct Score {
-    line: usize,
-    seed: usize,
-    pub cases: usize,
-    pub wrong: usize,
-    pub first: usize,
+    cases: usize,
+    wrong: usize,
+    first: Option<usize>,
 }
 
-fn begin() -> Score {
-    Score {
-        line: 0,
-        seed: 0,
+impl Score {
+    // The score of a list that is too long to be read: wrong at line 0, which no list has.
+    pub const UNREAD: Score = Score {
         cases: 0,
-        wrong: 0,
-        first: 0,
-    }
-}
+        wrong: 1,
+        first: Some(0),
+    };
 
-fn missed(score: Score) -> Score {
-    let mut s = score;
-    s.wrong = wrapping_add_usize(s.wrong, 1);
-    if s.wrong == 1 {
-        s.first = s.line;
-    }
-    s
-}
-
-// Gives the score of a list that is too long to be read.
-pub fn unread() -> Score {
-    missed(begin())
-}
-
-// Adds the line that begins at a place to the score.
-fn scored(score: Score, text: &[u8], at: usize) -> Score {
-    let mut s = score;
-    s.line = wrapping_add_usize(s.line, 1);
-    let byte = numbers::byte_at(text, at);
-    if byte == b'#' || byte == b'\n' {
-        return s;
-    }
-    s.seed = wrapping_add_usize(s.seed, 8);
-    s.cases = wrapping_add_usize(s.cases, 1);
-    if case::holds(text, at, s.seed) {
-        return s;
-    }
-    missed(s)
-}
-
-pub fn replay(text: &[u8]) -> Score {
-    let mut score = begin();
-    let mut at = 0;
-    let mut turns = text.len();
-    while turns > 0 {
-        turns -= 1;
-        if at >= text.len() {
-            break;
+    // Counts the case of a line.
+    fn count(&mut self, line: usize, right: bool)
+        requires cases { self.old.cases < line }
+        requires wrong { self.old.wrong ≤ self.old.cases }
+        ensures cases { self.new.cases ≡ self.old.cases + 1 }
+        ensures wrong { self.new.wrong ≤ self.new.cases }
+    {
+        self.cases += 1;
+        if !right {
+            self.wrong += 1;
+            self.first = self.first.or(Some(line));
         }
-        score = scored(score, text, at);
-        at = numbers::next_line(text, at);
     }
-    score
+}
+
+impl fmt::Display for Score {
+    fn fmt<W: fmt::Write>(&self, f: &mut fmt::Formatter<W>) -> fmt::Result {
+        let Score {
+            cases,
+            wrong,
+            first,
+        } = *self;
+        write!(f, "cases {cases} wrong {wrong}")?;
+        match first {
+            Some(line) => write!(f, " first at line {line}"),
+            None => Ok(()),
+        }
+    }
+}
+
+// Replays a list. The noise of a case has five seeds, and the first is eight above that of the case before it.
+pub fn replay(alloc: Global, text: &[u8]) -> Result<Score, AllocError> {
+    let mut score = Score::default();
+    let mut seed = 0u32;
+    for (index, line) in text.split(|byte| *byte == b'\n').enumerate() {
+        if let [] | [b'#', ..] = line {
+            continue;
+        }
+        seed = seed.wrapping_add(8);
+        score.count(index + 1, case::holds(alloc, line, seed)?);
+    }
+    Ok(score)
 }

@@ -1,5 +1,5 @@
 // Makes the pictures and the settings of a call from its numbers. An offset is a pattern of 16 bits, a float one of 64.
-use crate::buffers::byte;
+use crate::numbers::narrow;
 use image::Geometry;
 use imgproc::grid::{SauvolaFloats, TileThresholdConfig, TileThresholdGrid, TileThresholdMethod};
 use imgproc::illumination::BackgroundDivideConfig;
@@ -9,92 +9,75 @@ use imgproc::threshold::SauvolaConfig;
 // The numbers of a call: its own first, then as many as any call has.
 pub type Numbers = [usize; 24];
 
-pub fn source(f: Numbers) -> Geometry {
+fn geometry([width, height, stride]: [usize; 3]) -> Geometry {
     Geometry {
-        width: f[1],
-        height: f[2],
-        stride: f[3],
+        width,
+        height,
+        stride,
     }
 }
 
+pub fn source(f: Numbers) -> Geometry {
+    geometry([f[1], f[2], f[3]])
+}
+
 pub fn destination(f: Numbers) -> Geometry {
-    Geometry {
-        width: f[4],
-        height: f[5],
-        stride: f[6],
-    }
+    geometry([f[4], f[5], f[6]])
 }
 
 pub fn division(f: Numbers) -> BackgroundDivideConfig {
     BackgroundDivideConfig {
         structuring_element: f[7],
-        target_luma: byte(f[8]),
-        denominator_floor: byte(f[9]),
+        target_luma: narrow(f[8]),
+        denominator_floor: narrow(f[9]),
     }
 }
 
-// Gives a number as a u32, and 0 where it is larger.
-fn word(value: usize) -> u32 {
-    if value > 4294967295 {
-        return 0;
-    }
-    value as u32
-}
-
-pub fn window(radius: usize, k: usize, range: usize, dark: usize, light: usize) -> SauvolaConfig {
+// Takes the radius, k, the range, and the bytes for dark and light.
+fn window([radius, k, range, dark, light]: [usize; 5]) -> SauvolaConfig {
     SauvolaConfig {
-        radius: radius,
-        k_milli: word(k),
-        dynamic_range: word(range),
-        dark_value: byte(dark),
-        light_value: byte(light),
+        radius,
+        k_milli: narrow(k),
+        dynamic_range: narrow(range),
+        dark_value: narrow(dark),
+        light_value: narrow(light),
     }
 }
 
-// Gives the offset of a pattern, and 0 where the number is no pattern. A negative offset is the complement of the rest.
-fn offset(bits: usize) -> i16 {
-    if bits < 32768 {
-        return bits as i16;
-    }
-    if bits > 65535 {
-        return 0;
-    }
-    !((65535 - bits) as i16)
+pub fn sauvola(f: Numbers) -> SauvolaConfig {
+    window([f[7], f[8], f[9], f[10], f[11]])
 }
 
-// Gives the float of a pattern; for each pattern of a NaN, a NaN.
+// Gives the float of a pattern; for each pattern of a NaN, a NaN. (std's `from_bits` asks that the pattern is of none.)
+#[tactic(auto, using(std::proofs::lemmas::Float::not_nan_f64_bits))]
 fn float(bits: u64) -> f64 {
-    if bits % 9223372036854775808 / 4503599627370496 == 2047 {
-        if bits % 4503599627370496 != 0 {
-            return 0.0 / 0.0;
-        }
-        if bits < 9223372036854775808 {
-            return 1.0 / 0.0;
-        }
-        return -1.0 / 0.0;
+    if bits % 0x8000_0000_0000_0000 > 0x7ff0_0000_0000_0000 {
+        return f64::NAN;
     }
     f64::from_bits(bits)
 }
 
+// A list has the method as a number, as the C interface does.
 fn method(kind: usize, k: usize, range: usize) -> TileThresholdMethod {
-    if kind == 0 {
-        return TileThresholdMethod::Midrange;
+    match kind {
+        0 => TileThresholdMethod::Midrange,
+        _ => TileThresholdMethod::Sauvola(SauvolaFloats {
+            k: float(k as u64),
+            dynamic_range: float(range as u64),
+        }),
     }
-    TileThresholdMethod::Sauvola(SauvolaFloats {
-        k: float(k as u64),
-        dynamic_range: float(range as u64),
-    })
 }
 
 // Takes the tile sides, the neighbourhood radius, the contrast floor, the method's kind, k and range, and the offset.
-fn tiles(s: [usize; 8]) -> TileThresholdConfig {
+fn tiles(numbers: [usize; 8]) -> TileThresholdConfig {
+    let [width, height, radius, floor, kind, k, range, offset] = numbers;
     TileThresholdConfig {
-        tile_width: s[0],
-        tile_height: s[1],
-        neighborhood_radius: s[2],
-        threshold_offset: offset(s[7]),
-        contrast_floor: byte(s[3]),
-        method: method(s[4], s[5], s[6]),
+        tile_width: width,
+        tile_height: height,
+        neighborhood_radius: radius,
+        threshold_offset: narrow::<u16>(offset).cast_signed(),
+        contrast_floor: narrow(floor),
+        method: method(kind, k, range),
     }
 }
 
@@ -107,7 +90,7 @@ pub fn reading(f: Numbers) -> ReadingConfig {
         division: division(f),
         opening_kernel: f[10],
         grid: tiles([f[11], f[12], f[13], f[14], f[15], f[16], f[17], f[18]]),
-        sauvola: window(f[19], f[20], f[21], f[22], f[23]),
+        sauvola: window([f[19], f[20], f[21], f[22], f[23]]),
     }
 }
 

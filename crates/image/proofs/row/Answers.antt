@@ -5,31 +5,26 @@ use mathlib.Core.Path.{refl}
 use Prim.Native.Nat.{◌+◌, ◌*◌, ◌≤◌}
 use Rattle.image.proofs.Places.{row_place_lem, row_empty, row_found}
 use Rattle.image.proofs.row.Goals as goal
-use Rattle.image.proofs.row.Goals.{In-Valid}
-
-pub returns-in_default : goal.returns-in_default
-returns-in_default c =
-    let a = c.args in
-    row_empty a.«data» a.geometry a.y c.check_row.ensures c.in_default.is refl refl
+use Rattle.image.proofs.row.Goals.{In-Ok}
 
 -- the row lies in the slice
-place : (c : In-Valid) →
-    c.args.y * c.in-Valid.g.stride + c.in-Valid.g.width
+place : (c : In-Ok) →
+    c.args.y * c.in-Ok.g.stride + c.in-Ok.g.width
     ≤ length c.args.«data».now
 place c =
     let a = c.args in
-    row_place_lem (length a.«data».now) a.geometry a.y c.check_row.ensures c.in-Valid.is
+    row_place_lem (length a.«data».now) a.geometry a.y c.check_row.ensures c.in-Ok.is
 
 pub overflow_mul-from : goal.overflow_mul-from
-overflow_mul-from c = omega (arith, place (goal.at.overflow_mul-from c).In-Valid)
+overflow_mul-from c = omega (arith, place (goal.at.overflow_mul-from c).In-Ok)
 
 pub overflow_add-to : goal.overflow_add-to
-overflow_add-to c = omega (arith, place (goal.at.overflow_add-to c).In-Valid)
+overflow_add-to c = omega (arith, place (goal.at.overflow_add-to c).In-Ok)
 
 pub slice_bounds-result-end-2 : goal.slice_bounds-result-end-2
-slice_bounds-result-end-2 c = place (goal.at.slice_bounds-result-end-2 c).In-Valid
+slice_bounds-result-end-2 c = place (goal.at.slice_bounds-result-end-2 c).In-Ok
 
 pub returns : goal.returns
 returns c =
     let a = c.args in
-    row_found a.«data» a.geometry a.y c.check_row.ensures c.in-Valid.is refl refl
+    row_found a.«data» a.geometry a.y c.check_row.ensures c.in-Ok.is refl refl

@@ -6,31 +6,26 @@ use denote.MutBor.{as_bor}
 use Prim.Native.Nat.{◌+◌, ◌*◌, ◌≤◌}
 use Rattle.image.proofs.Places.{row_place_lem, row_empty, row_found}
 use Rattle.image.proofs.row_mut.Goals as goal
-use Rattle.image.proofs.row_mut.Goals.{In-Valid}
-
-pub returns-in_default : goal.returns-in_default
-returns-in_default c =
-    let a = c.args in
-    row_empty (as_bor a.«data») a.geometry a.y c.check_row.ensures c.in_default.is refl refl
+use Rattle.image.proofs.row_mut.Goals.{In-Ok}
 
 -- the row lies in the slice
-place : (c : In-Valid) →
-    c.args.y * c.in-Valid.g.stride + c.in-Valid.g.width
+place : (c : In-Ok) →
+    c.args.y * c.in-Ok.g.stride + c.in-Ok.g.width
     ≤ length c.args.«data».now
 place c =
     let a = c.args in
-    row_place_lem (length a.«data».now) a.geometry a.y c.check_row.ensures c.in-Valid.is
+    row_place_lem (length a.«data».now) a.geometry a.y c.check_row.ensures c.in-Ok.is
 
 pub overflow_mul-start : goal.overflow_mul-start
-overflow_mul-start c = omega (arith, place (goal.at.overflow_mul-start c).In-Valid)
+overflow_mul-start c = omega (arith, place (goal.at.overflow_mul-start c).In-Ok)
 
 pub overflow_add-end : goal.overflow_add-end
-overflow_add-end c = omega (arith, place (goal.at.overflow_add-end c).In-Valid)
+overflow_add-end c = omega (arith, place (goal.at.overflow_add-end c).In-Ok)
 
 pub slice_bounds-data-end-2 : goal.slice_bounds-data-end-2
-slice_bounds-data-end-2 c = place (goal.at.slice_bounds-data-end-2 c).In-Valid
+slice_bounds-data-end-2 c = place (goal.at.slice_bounds-data-end-2 c).In-Ok
 
 pub returns : goal.returns
 returns c =
     let a = c.args in
-    row_found (as_bor a.«data») a.geometry a.y c.check_row.ensures c.in-Valid.is refl refl
+    row_found (as_bor a.«data») a.geometry a.y c.check_row.ensures c.in-Ok.is refl refl

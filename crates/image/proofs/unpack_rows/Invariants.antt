@@ -6,6 +6,3 @@ use Rattle.image.proofs.unpack_rows.Given as goal
 
 abbrev pub invariant-loop-y : goal.invariant-loop-y
 invariant-loop-y l = RowsPainted (part l.at (l.width * l.height) l.workspace) l.width l.height l.stride l.initial.dst l.dst l.y
-
-abbrev pub decreases-loop-y : goal.decreases-loop-y
-decreases-loop-y l = l.height - l.y

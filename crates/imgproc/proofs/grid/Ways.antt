@@ -1,4 +1,5 @@
 -- Checks of a build that accept give tile sides above 0 and buffers that hold the tiles. Assumes nothing.
+use Rattle.std.specs.Prelude.{Ok}
 use mathlib.Core.Path.{◌≡◌}
 use mathlib.Core.Bool.{not, ◌||◌}
 use Prim.Native.Nat.{◌*◌, ◌<◌}
@@ -8,7 +9,6 @@ use lib.ListN.{length}
 use borrow.Author.Tests.{ltb-false, eqb-false}
 use Rattle.image.specs.LayoutLaws.{neither}
 use Rattle.imgproc.specs.declared.ImgProcError.TheVariants.{InvalidConfiguration, WorkspaceTooSmall, GridBufferTooSmall}
-use Rattle.imgproc.specs.declared.Check.TheVariants.{Accepted}
 use Rattle.imgproc.specs.declared.grid.config.TileThresholdConfig.{TileThresholdConfig}
 use Rattle.imgproc.specs.GridCalls.{usable_method, grid_settings, grid_room, BuildLent, tiles_lent}
 use Rattle.imgproc.specs.Tiles.{Rooms}
@@ -17,7 +17,7 @@ use Rattle.imgproc.specs.RefusalLaws.{both_accepted, not_refused}
 
 -- tile sides above 0
 pub sides_accepted :
-    (g : TileThresholdConfig) → first (grid_settings g) ≡ Accepted → (0 < g.tile_width) × (0 < g.tile_height)
+    (g : TileThresholdConfig) → first (grid_settings g) ≡ Ok tt → (0 < g.tile_width) × (0 < g.tile_height)
 unfolding grid_settings
 sides_accepted g e =
     let w = eqb g.tile_width 0 in
@@ -31,7 +31,7 @@ abbrev pub room_of : BuildLent → Conditions
 room_of lent = grid_room (tiles_lent lent) (length lent.workspace) (length lent.thresholds) (length lent.skips)
 
 -- buffers that hold its tiles
-pub room_accepted : (lent : BuildLent) → first (room_of lent) ≡ Accepted → Rooms lent
+pub room_accepted : (lent : BuildLent) → first (room_of lent) ≡ Ok tt → Rooms lent
 room_accepted lent e =
     let t = tiles_lent lent in
     let short = ltb (length lent.workspace) (5 * t) in

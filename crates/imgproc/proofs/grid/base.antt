@@ -1,6 +1,4 @@
--- The base of a threshold: the laws behind its f64 steps, its bisection and its clipping. Assumes nothing.
-mod Halves
-mod Bisection
-mod Clip
+-- The base of a threshold: the laws behind its f64 steps, its rounding and its test of finite values. Assumes nothing.
+mod Rounding
 mod Floats
-mod Steps
+pub mod Steps

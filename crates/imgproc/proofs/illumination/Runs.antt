@@ -1,25 +1,28 @@
 -- The work of an accepted division: what is packed, closed, divided and painted is the contract's picture; and the ways out of its settings. Assumes nothing.
+use Rattle.std.specs.Prelude.{Ok, Err}
 use mathlib.Core.Path.{◌≡◌, sym, ap, ap₂, ◌∙◌}
 use mathlib.Core.List.{List}
 use mathlib.Core.Logic.{inl}
 use Prim.Native.Nat.{ℕ, ◌+◌, ◌*◌, ◌%◌, ◌≤◌, ◌<◌}
 use native.Mathlib.Omega.{arith}
 use lib.ListN.{length, get_or}
-use borrow.Author.Tests.{eq-eqb, ne_eqb, lt-ltb, le-ltb}
+use lib.Dec.{ltb}
+use borrow.Author.Tests.{eq-eqb, ne_eqb, lt-ltb, le-ltb, ltb-false}
+use Rattle.imgproc.specs.RefusalLaws.{both_accepted, not_refused, division_says}
 use Rattle.image.specs.declared.Geometry.{Geometry}
 use Rattle.image.specs.Answers.{Answer, Bare}
+use Rattle.image.specs.Layout.{Kept}
 use Rattle.image.specs.Plane.{picture, part}
 use Rattle.image.specs.PlaneLaws.{in_plane, is_plane, length_part, get_d_part}
 use Rattle.image.specs.Copy.{Packs, Unpacks}
 use Rattle.imgproc.specs.declared.illumination.BackgroundDivideConfig.{BackgroundDivideConfig}
-use Rattle.imgproc.specs.declared.ImgProcError.TheVariants.{InvalidConfiguration}
-use Rattle.imgproc.specs.declared.Check.TheVariants.{Accepted, Refused}
+use Rattle.imgproc.specs.declared.ImgProcError.TheVariants.{InvalidConfiguration, WorkspaceTooSmall}
 use Rattle.imgproc.specs.declared.morphology.tally.Tally.{Tally}
 use Rattle.imgproc.specs.Tallies.{Stands, room_fresh, raised_fresh}
 use Rattle.imgproc.specs.Morphology.{closed}
 use Rattle.imgproc.specs.Sweeps.{TwiceReady, TwiceMorphed}
-use Rattle.imgproc.specs.Refusals.{first, division_settings}
-use Rattle.imgproc.specs.Calls.{Loan, Works}
+use Rattle.imgproc.specs.Refusals.{first, refused_if, division_settings, element_and_room}
+use Rattle.imgproc.specs.Calls.{Loan, Works, Paired}
 use Rattle.imgproc.specs.Division.{quotient, divided_by, divided, division, PlaneDivided, FlattenReady, Flattened, DivideReady}
 use Rattle.image.specs.LayoutLaws.{area_small}
 use Rattle.image.specs.CopyLaws.{packs_plane}
@@ -27,16 +30,16 @@ use Rattle.imgproc.proofs.Serving.{unpacked_works}
 use Rattle.imgproc.proofs.morphology.Runs.{first_to_second, twice_ready}
 
 -- ---- packed, closed, divided
-module _ {tally : Tally} {src : List ℕ} {g : Geometry} {d : BackgroundDivideConfig} {ws : List ℕ} (ready : FlattenReady tally src g d ws)
-    {r : Answer Bare} {first : List ℕ} (pack : Packs src g 0 ws r first) where
+module _ {tally : Tally} {src : List ℕ} {g : Geometry} {d : BackgroundDivideConfig} {ws : List ℕ} (kept : Kept (length src) g)
+    (ready : FlattenReady tally g d ws) {r : Answer Bare} {first : List ℕ} (pack : Packs src g 0 ws r first) where
   plane : (length first ≡ length ws) × (part 0 (g.width * g.height) first ≡ picture src g)
-  plane = packs_plane ready.from (omega (arith, ready.fits)) pack
+  plane = packs_plane kept (omega (arith, ready.fits)) pack
 
   pub close_ready : TwiceReady tally first (first_to_second g.width g.height) d.structuring_element
   close_ready = twice_ready (record {
     fits = omega (arith, plane.0, ready.fits);
     kernel = ready.kernel;
-    wide = ready.from.wide;
+    wide = kept.wide;
     room = ready.room;
   })
 
@@ -68,7 +71,7 @@ module _ {tally : Tally} {src : List ℕ} {g : Geometry} {d : BackgroundDivideCo
         let fits : n + n ≤ length third = omega (arith, ready.fits) in
         record {
           leaves =
-              is_plane g.width g.height _ (part n n third) ready.from.wide (length_part n n third fits)
+              is_plane g.width g.height _ (part n n third) kept.wide (length_part n n third fits)
               (λ x y X Y.
               let i = y * g.width + x in
               let l = in_plane g.width g.height x y X Y in
@@ -79,11 +82,10 @@ module _ {tally : Tally} {src : List ℕ} {g : Geometry} {d : BackgroundDivideCo
 
 -- ---- and painted
 module _ {lent : Loan BackgroundDivideConfig} (ready : DivideReady lent) {tally : Tally} (fresh : Stands tally 0) where
-  pub flatten_ready : FlattenReady tally lent.src lent.source lent.settings lent.workspace
+  pub flatten_ready : FlattenReady tally lent.source lent.settings lent.workspace
   flatten_ready =
       let area = area_small ready.pair.from in
       record {
-        from = ready.pair.from;
         kernel = ready.kernel;
         floor = ready.floor;
         fits = ready.fits;
@@ -99,20 +101,36 @@ module _ {lent : Loan BackgroundDivideConfig} (ready : DivideReady lent) {tally 
 
 -- ---- the settings
 module _ (d : BackgroundDivideConfig) where
-  pub element_small : d.structuring_element < 3 → Refused InvalidConfiguration ≡ first (division_settings d)
+  pub element_small : d.structuring_element < 3 → Err InvalidConfiguration ≡ first (division_settings d)
   unfolding first division_settings
   element_small x = simp (lt-ltb d.structuring_element 3 x)
 
-  pub element_even : 3 ≤ d.structuring_element → d.structuring_element % 2 ≡ 0 → Refused InvalidConfiguration ≡ first (division_settings d)
+  pub element_even : 3 ≤ d.structuring_element → d.structuring_element % 2 ≡ 0 → Err InvalidConfiguration ≡ first (division_settings d)
   unfolding first division_settings
   element_even l x = simp (le-ltb d.structuring_element 3 l, eq-eqb _ _ x)
 
   pub no_floor : 3 ≤ d.structuring_element → (d.structuring_element % 2 ≡ 0 → ⊥) → d.denominator_floor ≡ 0
-      → Refused InvalidConfiguration ≡ first (division_settings d)
+      → Err InvalidConfiguration ≡ first (division_settings d)
   unfolding first division_settings
   no_floor l o x = simp (le-ltb d.structuring_element 3 l, ne_eqb (d.structuring_element % 2) 0 o, eq-eqb d.denominator_floor 0 x)
 
   pub settings_good : 3 ≤ d.structuring_element → (d.structuring_element % 2 ≡ 0 → ⊥) → (d.denominator_floor ≡ 0 → ⊥)
-      → Accepted ≡ first (division_settings d)
+      → Ok tt ≡ first (division_settings d)
   unfolding first division_settings
   settings_good l o x = simp (le-ltb d.structuring_element 3 l, ne_eqb (d.structuring_element % 2) 0 o, ne_eqb d.denominator_floor 0 x)
+
+-- ---- what accepted settings and room say
+pub division_ready : {lent : Loan BackgroundDivideConfig}
+    → Paired (length lent.src) lent.source (length lent.dst) lent.target
+    → first (element_and_room lent.settings lent.source (length lent.workspace)) ≡ Ok tt
+    → DivideReady lent
+division_ready {lent} pair p =
+    let short = ltb (length lent.workspace) (7 * (lent.source.width * lent.source.height)) in
+    let both = both_accepted (division_settings lent.settings) (refused_if short WorkspaceTooSmall) p in
+    let good = division_says lent.settings both.0 in
+    record {
+      pair = pair;
+      kernel = omega (arith, good.0);
+      floor = good.1;
+      fits = omega (arith, ltb-false _ _ (not_refused short WorkspaceTooSmall both.1));
+    }

@@ -99,98 +99,65 @@ pub done_none : (P : ℕ → ℕ → ℕ → Type 0) {D : ℕ → Type 0} (to w 
 done_none P to w h d n = record { each = λ x y l m. absurd (n y m); rest = record { long = refl; before = λ j l. refl; after = λ j l. refl } }
 
 -- ---- a pass that has come down to line y
-pub record Downward (P : ℕ → ℕ → ℕ → Type 0) (test : ℕ → Bool) (to w h y at : ℕ) (d d' : List ℕ) (tally raised : Tally) : Type 0 where
-  pub inside : y ≤ h
-  pub here : at ≡ y * w
+pub record Downward (P : ℕ → ℕ → ℕ → Type 0) (test : ℕ → Bool) (to w h y : ℕ) (d d' : List ℕ) (tally raised : Tally) : Type 0 where
   pub lines : Done P (λ (i : ℕ). i < y) to w h d d'
   pub counted : Raised tally (walk test y * w) raised
 
 module _ {P : ℕ → ℕ → ℕ → Type 0} {test : ℕ → Bool} {to w h : ℕ} {d : List ℕ} {tally : Tally} where
-  pub down_none : Downward P test to w h 0 0 d d tally tally
+  pub down_none : Downward P test to w h 0 d d tally tally
   unfolding walk
-  down_none = record { inside = omega arith; here = omega arith; lines = done_none P to w h d (λ i m. not-suc-le-zero m); counted = raised_none (omega arith) }
+  down_none = record { lines = done_none P to w h d (λ i m. not-suc-le-zero m); counted = raised_none (omega arith) }
 
-  pub down_more : {y at : ℕ} {c c' : Tally} (g : ℕ → ℕ) {a a' : List ℕ} → Downward P test to w h y at d a tally c → y < h → Rowed (to + at) w g a a'
-      → ((x : ℕ) → x < w → P x y (g x)) → Raised c (bit (test y) * w) c' → Downward P test to w h (y + 1) (at + w) d a' tally c'
-  down_more {y} g {a} {a'} s l r each e =
-      let r' : Rowed (to + y * w) w g a a' = rw s.here at r in
+  pub down_more : {y : ℕ} {c c' : Tally} (g : ℕ → ℕ) {a a' : List ℕ} → Downward P test to w h y d a tally c → y < h → Rowed (to + y * w) w g a a'
+      → ((x : ℕ) → x < w → P x y (g x)) → Raised c (bit (test y) * w) c' → Downward P test to w h (y + 1) d a' tally c'
+  down_more {y} g s l r each e =
       let more : walk test (y + 1) * w ≡ walk test y * w + bit (test y) * w = ap (λ (n : ℕ). n * w) (walk_more test y) ∙ omega arith in
-      record {
-        inside = omega arith;
-        here = omega (arith, s.here);
-        lines = done_more y g l s.lines r' each (λ i m ne. omega arith);
-        counted = raised_twice s.counted e more;
-      }
+      record { lines = done_more y g l s.lines r each (λ i m ne. omega arith); counted = raised_twice s.counted e more }
 
   -- the tally so far has room for a line more
-  pub down_room : {y at : ℕ} {c : Tally} {a : List ℕ} → HasRoom tally (w * h) → Downward P test to w h y at d a tally c → y < h → HasRoom c w
+  pub down_room : {y : ℕ} {c : Tally} {a : List ℕ} → HasRoom tally (w * h) → Downward P test to w h y d a tally c → y < h → HasRoom c w
   down_room {y} room s l =
       let b : walk test y * w ≤ y * w = mul-le-mul_right w (walk_le test y) in
       room_left room s.counted (omega (arith, line_order w y h l))
-
-  -- the line at `at` is within the plane
-  pub down_fits : {y at : ℕ} {c : Tally} {a : List ℕ} → Downward P test to w h y at d a tally c → y < h → at + w ≤ w * h
-  down_fits {y} s l = omega (arith, line_order w y h l, s.here)
-
-  pub down_all : {y at : ℕ} {c : Tally} {a : List ℕ} → Downward P test to w h y at d a tally c → h ≤ y → Passed P test tally d to w h c a
-  down_all {y} s l =
-      let e : y ≡ h = omega (arith, s.inside) in
-      record { each = λ x i m n. s.lines.each x i m (omega arith); rest = s.lines.rest; counted = rw e at s.counted }
 
 -- the walk to y, by that to the line above
 walk_above : (test : ℕ → Bool) (y : ℕ) → 0 < y → walk test y ≡ walk test (y - 1) + bit (test (y - 1))
 walk_above test y l = ap (walk test) (omega arith) ∙ walk_more test (y - 1)
 
 -- ---- a pass that has come up to line y, and has met so many lines on its way
-pub record Upward (P : ℕ → ℕ → ℕ → Type 0) (test : ℕ → Bool) (to w h y at : ℕ) (d d' : List ℕ) (tally raised : Tally) : Type 0 where
-  pub inside : y ≤ h
-  pub here : at ≡ y * w
+pub record Upward (P : ℕ → ℕ → ℕ → Type 0) (test : ℕ → Bool) (to w h y : ℕ) (d d' : List ℕ) (tally raised : Tally) : Type 0 where
   pub lines : Done P (λ (i : ℕ). (y ≤ i) × (i < h)) to w h d d'
   pub met : ℕ
   pub ahead : met + walk test y ≡ walk test h
   pub counted : Raised tally (met * w) raised
 
 module _ {P : ℕ → ℕ → ℕ → Type 0} {test : ℕ → Bool} {to w h : ℕ} {d : List ℕ} {tally : Tally} where
-  pub up_none : Upward P test to w h h (w * h) d d tally tally
+  pub up_none : Upward P test to w h h d d tally tally
   up_none = record {
-    inside = omega arith;
-    here = omega arith;
     lines = done_none P to w h d (λ i m. omega arith);
     met = 0;
     ahead = omega arith;
     counted = raised_none (omega arith);
   }
 
-  pub up_more : {y at : ℕ} {c c' : Tally} (g : ℕ → ℕ) {a a' : List ℕ} → Upward P test to w h y at d a tally c → 0 < y → Rowed (to + (at - w)) w g a a'
-      → ((x : ℕ) → x < w → P x (y - 1) (g x)) → Raised c (bit (test (y - 1)) * w) c' → Upward P test to w h (y - 1) (at - w) d a' tally c'
-  up_more {y} {at} g {a} {a'} s l r each e =
-      let up : at - w ≡ (y - 1) * w = omega (arith, line_before w y l, s.here) in
-      let r' : Rowed (to + (y - 1) * w) w g a a' = rw up at r in
-      record {
-        inside = omega (arith, s.inside);
-        here = up;
-        lines = done_more (y - 1) g (omega (arith, s.inside)) s.lines r' each (λ i m ne. omega arith);
-        met = s.met + bit (test (y - 1));
-        ahead = omega (arith, s.ahead, walk_above test y l);
-        counted = raised_twice s.counted e (add-mul s.met (bit (test (y - 1))) w);
-      }
+  pub up_more : {y : ℕ} {c c' : Tally} (g : ℕ → ℕ) {a a' : List ℕ} → Upward P test to w h y d a tally c → 0 < y → y ≤ h → Rowed (to + (y - 1) * w) w g a a'
+      → ((x : ℕ) → x < w → P x (y - 1) (g x)) → Raised c (bit (test (y - 1)) * w) c' → Upward P test to w h (y - 1) d a' tally c'
+  up_more {y} g s l u r each e = record {
+    lines = done_more (y - 1) g (omega arith) s.lines r each (λ i m ne. omega arith);
+    met = s.met + bit (test (y - 1));
+    ahead = omega (arith, s.ahead, walk_above test y l);
+    counted = raised_twice s.counted e (add-mul s.met (bit (test (y - 1))) w);
+  }
 
-  pub up_room : {y at : ℕ} {c : Tally} {a : List ℕ} → HasRoom tally (w * h) → Upward P test to w h y at d a tally c → 0 < y → test (y - 1) ≡ true → HasRoom c w
+  pub up_room : {y : ℕ} {c : Tally} {a : List ℕ} → HasRoom tally (w * h) → Upward P test to w h y d a tally c → 0 < y → test (y - 1) ≡ true → HasRoom c w
   up_room {y} room s l t =
       let one : bit (test (y - 1)) ≡ 1 = rw t refl in
       let b : (s.met + 1) * w ≤ h * w = mul-le-mul_right w (omega (arith, s.ahead, walk_above test y l, walk_le test h)) in
       room_left room s.counted (omega arith)
 
-  -- the line at y - 1 is within the plane
-  pub up_fits : {y at : ℕ} {c : Tally} {a : List ℕ} → Upward P test to w h y at d a tally c → 0 < y → (w ≤ at) × (at ≤ w * h)
-  up_fits {y} s l =
-      let b : y * w ≤ h * w = mul-le-mul_right w s.inside in
-      omega (arith, line_before w y l, s.here)
-
-  pub up_all : {y at : ℕ} {c : Tally} {a : List ℕ} → Upward P test to w h y at d a tally c → y ≤ 0 → Passed P test tally d to w h c a
+  pub up_all : {y : ℕ} {c : Tally} {a : List ℕ} → Upward P test to w h y d a tally c → y ≡ 0 → Passed P test tally d to w h c a
   unfolding walk
-  up_all {y} s l =
-      let e : y ≡ 0 = omega arith in
+  up_all {y} s e =
       let none : walk test y ≡ 0 = ap (walk test) e in
       let all : s.met ≡ walk test h = omega (arith, none, s.ahead) in
       record { each = λ x i m n. s.lines.each x i m (omega arith); rest = s.lines.rest; counted = rw all at s.counted }

@@ -18,25 +18,7 @@ use Rattle.imgproc.specs.Walks.{cases, lines_walks_le}
 use Rattle.imgproc.specs.Compared.{Before, extreme}
 use Rattle.imgproc.specs.Morphology.{swept_rect, swept}
 use Rattle.imgproc.specs.MorphologyLaws.{reach_in, is_swept}
-use Rattle.imgproc.specs.Sweeps.{
-  lane,
-  Off,
-  Reached,
-  area,
-  planes_in_place,
-  Beside,
-  LinesSwept,
-  Transposed,
-  SweepReady,
-  RowsSwept,
-  ColumnsSwept,
-  MorphReady,
-  Morphed,
-  PairReady,
-  PairMorphed,
-  TwiceReady,
-  TwiceMorphed,
-}
+use Rattle.imgproc.specs.Sweeps.{lane, Off, Reached, area, planes_in_place, strip_of, transposed, Beside, LinesSwept, Transposed, SweepReady, RowsSwept, ColumnsSwept, MorphReady, Morphed, PairReady, PairMorphed}
 use Rattle.imgproc.proofs.morphology.sweeps.Blocks.{order, seen}
 use Rattle.imgproc.proofs.morphology.Lanes.{off, apart_within, outside_at, line_order}
 
@@ -45,10 +27,6 @@ pub off_within : {at n j : ℕ} (a m : ℕ) → Off at n j → at ≤ a → a + 
 off_within a m p l h = record { off = ⊎_elim (λ s. inl (omega arith)) (λ s. inr (omega arith)) p.off }
 
 -- ---- a strip: transposed, swept as lanes, transposed back
--- between, the sweep works on these planes
-abbrev pub transposed : Planes → Planes
-transposed p = record { from = p.spare; to = p.spare; spare = p.spare + area p; width = p.height; height = p.width }
-
 pub strip_swept : {least : Bool} {k : ℕ} {p : Planes} {t r : Tally} {d e f g : List ℕ} → 0 < k → Transposed d p.from p.spare p.height p.width e
     → LinesSwept t e (transposed p) k least r f → Transposed f p.spare p.to p.width p.height g → RowsSwept t d p k least r g
 strip_swept {k = k} {p = p} pos there swept back =
@@ -77,10 +55,6 @@ pub record Sweeping (tally : Tally) (d : List ℕ) (p : Planes) (k : ℕ) (least
   pub ahead : (j : ℕ) → p.from + y * p.width ≤ j → j < p.from + area p → get_or d' j 0 ≡ get_or d j 0
   pub kept : Beside (3 * area p) p d d'
   pub counted : Raised tally (y * line_walks k p.width) raised
-
--- the strip of n rows from y on has these planes
-abbrev pub strip_of : Planes → ℕ → ℕ → Planes
-strip_of p y n = record { from = p.from + y * p.width; to = p.to + y * p.width; spare = p.spare; width = p.width; height = n }
 
 module _ {tally : Tally} {d : List ℕ} {p : Planes} {k : ℕ} {least : Bool} (ready : SweepReady tally d p k) where
   pub sweeping_none : Sweeping tally d p k least 0 tally d
@@ -266,11 +240,3 @@ module _ {one : Bool} {kw kh : ℕ} {p : Planes} {t a : Tally} {d e : List ℕ} 
       same = λ j u v. again.kept.same j u v ∙ once.kept.same j u v;
     };
   }
-
--- ---- an opening or a closing: two of them with the kernel k
-pub pair_ready : {t : Tally} {d : List ℕ} {p : Planes} {k : ℕ} → TwiceReady t d p k → PairReady t d p k k
-pair_ready q = record { once = record { rows = q.rows; columns = q.rows.kernel; wide = q.wide; room = room_part q.room (omega arith) }; room = q.room }
-
-pub twice_morphed : (one two : Bool) {t r : Tally} {d g : List ℕ} {p : Planes} {k : ℕ} → PairMorphed t d p k k one two r g
-    → TwiceMorphed (λ k w h p. swept (extreme two) k w h (swept (extreme one) k w h p)) t d p k r g
-twice_morphed one two q = record { leaves = q.leaves; counted = q.counted; kept = q.kept }

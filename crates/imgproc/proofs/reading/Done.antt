@@ -70,11 +70,10 @@ module _ {lent : ReadingLent} (ready : ReadReady lent) {tally : Tally} (fresh : 
   abbrev s : ReadingConfig
   s = lent.settings
 
-  pub open_stage : OpenReady tally lent.src g s lent.bytes
+  pub open_stage : OpenReady tally g s lent.bytes
   open_stage =
       let a = area_small ready.pair.from in
       record {
-        from = ready.pair.from;
         element = ready.settings.element;
         floor = ready.settings.floor;
         kernel = ready.settings.kernel;

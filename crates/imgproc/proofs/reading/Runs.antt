@@ -2,10 +2,9 @@
 use mathlib.Core.Path.{◌≡◌, refl, sym, ap, ap₂, ◌∙◌, subst}
 use mathlib.Core.List.{List}
 use mathlib.Core.Logic.{inl, inr}
-use Prim.Native.Nat.{ℕ, ◌+◌, ◌-◌, ◌*◌, ◌/◌, ◌%◌, ◌≤◌}
-use native.Mathlib.Nat.{add-sub_cancel_left}
+use Prim.Native.Nat.{ℕ, ◌+◌, ◌*◌, ◌/◌, ◌%◌, ◌≤◌, ◌<◌}
 use native.Mathlib.Omega.{arith}
-use lib.ListN.{length, take, drop}
+use lib.ListN.{length, take}
 use lib.Seq.{length-take-le}
 use Rattle.image.specs.declared.Geometry.{Geometry}
 use Rattle.image.specs.Layout.{Kept}
@@ -16,31 +15,28 @@ use Rattle.imgproc.specs.declared.reading.config.ReadingConfig.{ReadingConfig}
 use Rattle.imgproc.specs.declared.morphology.tally.Tally.{Tally}
 use Rattle.imgproc.specs.declared.morphology.sweeps.Planes.{Planes}
 use Rattle.imgproc.specs.Tallies.{raised_twice, room_part, room_left}
-use Rattle.imgproc.specs.declared.grid.bytes.TileByte.TheVariants.{Skip}
 use Rattle.imgproc.specs.Fold.{bit}
 use Rattle.imgproc.specs.Walks.{lines_walks_le}
 use Rattle.imgproc.specs.Morphology.{opened}
 use Rattle.imgproc.specs.Sweeps.{TwiceReady, TwiceMorphed}
 use Rattle.imgproc.specs.Division.{FlattenReady, Flattened}
 use Rattle.imgproc.specs.Grid.{tiles_x_of, tiles_y_of, skip_of, skips}
-use Rattle.imgproc.specs.TileBytes.{byte_by}
-use Rattle.imgproc.specs.Tiles.{Sized, GatherLent, GatherReady, Gathers, each_tile}
-use Rattle.imgproc.specs.ReadingSteps.{OpenReady, Opened, MarkReady, Marks, JudgeReady, JudgeRoom}
-use Rattle.imgproc.specs.Tables.{Tables}
+use Rattle.imgproc.specs.Tiles.{Sized, GatherLent, GatherReady, Gathers, each_tile, skip_by}
+use Rattle.imgproc.specs.ReadingSteps.{OpenReady, Opened, MarkReady, Marks}
 use Rattle.imgproc.proofs.grid.bytes.Tables.{skips_are}
 
 -- ---- flattened and opened
-module _ {tally : Tally} {src : List ℕ} {g : Geometry} {s : ReadingConfig} {ws : List ℕ} (ready : OpenReady tally src g s ws) where
-  pub flat_ready : FlattenReady tally src g s.division ws
+module _ {tally : Tally} {g : Geometry} {s : ReadingConfig} {ws : List ℕ} (wide : 0 < g.width)
+    (ready : OpenReady tally g s ws) where
+  pub flat_ready : FlattenReady tally g s.division ws
   flat_ready = record {
-    from = ready.from;
     kernel = ready.element;
     floor = ready.floor;
     fits = ready.fits;
     room = room_part ready.room (omega arith);
   }
 
-  module _ {raised : Tally} {first : List ℕ} (flat : Flattened tally src g s.division ws raised first) where
+  module _ {src : List ℕ} {raised : Tally} {first : List ℕ} (flat : Flattened tally src g s.division ws raised first) where
     -- the planes of the opening: from the second back to the first
     abbrev pub second_to_first : Planes
     second_to_first = record { from = g.width * g.height; to = 0; spare = 2 * (g.width * g.height); width = g.width; height = g.height }
@@ -60,7 +56,7 @@ module _ {tally : Tally} {src : List ℕ} {g : Geometry} {s : ReadingConfig} {ws
             kernel = ready.kernel;
             room = room_left ready.room flat.counted (omega arith);
           };
-          wide = ready.from.wide;
+          wide = wide;
           room = room_left ready.room flat.counted (omega arith);
         }
 
@@ -97,7 +93,7 @@ module _ {g : Geometry} {s : ReadingConfig} {at : ℕ} {bytes u64s : List ℕ} (
       record { src = take (g.width * g.height) bytes; source = g; settings = s.grid; workspace = u64s; at = 0 }
 
   pub gather_ready : GatherReady gather_lent
-  gather_ready = record { layout = prefix_kept; sized = sized; room = omega (arith, ready.u64s_fit) }
+  gather_ready = record { sized = sized; room = omega (arith, ready.u64s_fit) }
 
   module _ {u64s' : List ℕ} (gathered : Gathers gather_lent u64s') where
     new : List ℕ
@@ -111,7 +107,7 @@ module _ {g : Geometry} {s : ReadingConfig} {at : ℕ} {bytes u64s : List ℕ} (
         (λ i. bit (skip_of s.grid g.width g.height (part 0 (g.width * g.height) bytes) (i % across) (i / across)))
         (across * tiles_y_of s.grid g.height)
 
-    is_new : each_tile (byte_by Skip s.grid) s.grid g.width g.height 0 u64s' ≡ new
+    is_new : each_tile (skip_by s.grid) s.grid g.width g.height 0 u64s' ≡ new
     unfolding new
     is_new =
         skips_are gather_lent gather_ready gathered
@@ -119,7 +115,7 @@ module _ {g : Geometry} {s : ReadingConfig} {at : ℕ} {bytes u64s : List ℕ} (
         (picture_again (take (g.width * g.height) bytes) g ready.layout.wide ready.tight prefix_long)
 
     pub marked : {bytes' : List ℕ}
-        → bytes' ≡ overwritten at (each_tile (byte_by Skip s.grid) s.grid g.width g.height 0 u64s') bytes
+        → bytes' ≡ overwritten at (each_tile (skip_by s.grid) s.grid g.width g.height 0 u64s') bytes
         → Marks g s at bytes u64s bytes' u64s'
     unfolding new
     marked {bytes'} is =
@@ -133,18 +129,3 @@ module _ {g : Geometry} {s : ReadingConfig} {at : ℕ} {bytes u64s : List ℕ} (
           bytes_long = ap length e ∙ long;
           u64s_long = gathered.long;
         }
-
--- ---- the judgements
-module _ {g : Geometry} {s : ReadingConfig} {at : ℕ} {bytes u64s : List ℕ} (room : JudgeRoom g s at bytes u64s) where
-  pub judge_ready : {u64s' : List ℕ} (c : ℕ)
-      → c ≡ tiles_x_of s.grid g.width * tiles_y_of s.grid g.height
-      → Tables (take (g.width * g.height) bytes) g 0 u64s'
-      → JudgeReady (take (g.width * g.height) bytes) g (take (at + c - at) (drop at bytes)) u64s' 0 s
-  judge_ready c e tables = record {
-    tables = record { layout = prefix_kept room.marks; tables = tables; settings = room.settings };
-    tight = room.marks.tight;
-    whole = prefix_long room.marks;
-    tile_width = room.marks.tile_width;
-    tile_height = room.marks.tile_height;
-    marks = ap (λ (m : ℕ). part at m bytes) (add-sub_cancel_left at c ∙ e) ∙ room.skips;
-  }

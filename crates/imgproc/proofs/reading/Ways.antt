@@ -1,5 +1,6 @@
 -- What accepted settings and room of a reading say, and its contract by the way out. Assumes nothing.
-use mathlib.Core.Path.{◌≡◌, refl, sym, ap, ap₂, ◌∙◌, subst}
+use Rattle.std.specs.Prelude.{Ok, Err}
+use mathlib.Core.Path.{◌≡◌, refl, ap, ◌∙◌}
 use mathlib.Core.Bool.{◌||◌}
 use Prim.Native.Nat.{ℕ, ◌+◌, ◌*◌, ◌≤◌, ◌<◌}
 use native.Mathlib.Omega.{arith}
@@ -13,8 +14,7 @@ use Rattle.imgproc.specs.declared.reading.config.ReadingConfig.{ReadingConfig}
 use Rattle.imgproc.specs.declared.reading.ReadingCounts.{ReadingCounts}
 use Rattle.imgproc.specs.declared.ImgProcError.{ImgProcError}
 use Rattle.imgproc.specs.declared.ImgProcError.TheVariants.{InvalidKernel, WorkspaceTooSmall}
-use Rattle.imgproc.specs.declared.Check.TheVariants.{Accepted, Refused}
-use Rattle.imgproc.specs.Refusals.{error_number, Conditions, first, ◌then◌, refused_if, bad_kernel, division_settings, sauvola_settings}
+use Rattle.imgproc.specs.Refusals.{error_number, Conditions, first, ◌then◌, refused_if, pair_conditions, bad_kernel, division_settings, sauvola_settings}
 use Rattle.imgproc.specs.GridCalls.{grid_settings, tile_count}
 use Rattle.imgproc.specs.Reading.{
   reading_settings,
@@ -25,16 +25,19 @@ use Rattle.imgproc.specs.Reading.{
   ReadingLent,
   ReadingLeft,
   numbers_of,
+  reading_conditions,
   Reads,
 }
-use Rattle.imgproc.specs.ReadingSteps.{Usable, ReadDone}
-use Rattle.imgproc.specs.RefusalLaws.{then_accepted, both_accepted, not_refused, kernel_says, division_says}
-use Rattle.imgproc.proofs.WaysOut.{Comes, Pair, source_same, target_same, past}
+use Rattle.imgproc.specs.ReadingSteps.{Usable, ReadReady, ReadDone}
+use Rattle.imgproc.specs.RefusalLaws.{then_accepted, then_refused, both_accepted, not_refused, kernel_says, division_says}
+use Rattle.imgproc.specs.Calls.{Paired}
+use Rattle.imgproc.specs.Tiles.{Sized}
+use Rattle.imgproc.proofs.WaysOut.{past, before}
 use Rattle.imgproc.proofs.Answers.{in_range}
 use Rattle.imgproc.proofs.grid.Ways.{sides_accepted}
 
 -- what accepted settings say
-pub says : (s : ReadingConfig) → first (reading_settings s) ≡ Accepted → Usable s
+pub says : (s : ReadingConfig) → first (reading_settings s) ≡ Ok tt → Usable s
 unfolding reading_settings
 says s p =
     let kernel = refused_if (bad_kernel s.opening_kernel) InvalidKernel in
@@ -56,12 +59,12 @@ says s p =
 
 -- ---- the workspaces
 module _ (g : Geometry) (s : ReadingConfig) (bytes u64s t : ℕ) (is : t ≡ tile_count s.grid g.width g.height) where
-  pub bytes_short : bytes < marks_at g.width g.height + 2 * t → Refused WorkspaceTooSmall ≡ first (reading_room g s bytes u64s)
+  pub bytes_short : bytes < marks_at g.width g.height + 2 * t → Err WorkspaceTooSmall ≡ first (reading_room g s bytes u64s)
   unfolding first
   bytes_short l = simp (lt-ltb bytes (reading_bytes s.grid g.width g.height) (rw is at l))
 
   module _ (b : marks_at g.width g.height + 2 * t ≤ bytes) where
-    pub u64s_short : u64s < 2 * ((g.width + 1) * (g.height + 1)) + 5 * t → Refused WorkspaceTooSmall ≡ first (reading_room g s bytes u64s)
+    pub u64s_short : u64s < 2 * ((g.width + 1) * (g.height + 1)) + 5 * t → Err WorkspaceTooSmall ≡ first (reading_room g s bytes u64s)
     unfolding first
     u64s_short l =
         simp (
@@ -69,7 +72,7 @@ module _ (g : Geometry) (s : ReadingConfig) (bytes u64s t : ℕ) (is : t ≡ til
           lt-ltb u64s (reading_u64s s.grid g.width g.height) (rw is at l),
         )
 
-    pub room_enough : 2 * ((g.width + 1) * (g.height + 1)) + 5 * t ≤ u64s → Accepted ≡ first (reading_room g s bytes u64s)
+    pub room_enough : 2 * ((g.width + 1) * (g.height + 1)) + 5 * t ≤ u64s → Ok tt ≡ first (reading_room g s bytes u64s)
     unfolding first
     room_enough l =
         simp (
@@ -79,7 +82,7 @@ module _ (g : Geometry) (s : ReadingConfig) (bytes u64s t : ℕ) (is : t ≡ til
 
 pub room_says :
     (g : Geometry) (s : ReadingConfig) (bytes u64s : ℕ)
-    → first (reading_room g s bytes u64s) ≡ Accepted
+    → first (reading_room g s bytes u64s) ≡ Ok tt
     → (reading_bytes s.grid g.width g.height ≤ bytes) × (reading_u64s s.grid g.width g.height ≤ u64s)
 room_says g s bytes u64s p =
     let a = ltb bytes (reading_bytes s.grid g.width g.height) in
@@ -91,39 +94,62 @@ room_says g s bytes u64s p =
 
 -- ---- the contract
 
--- what is checked after the pair, of the source's layout
-abbrev rest : ReadingLent → Geometry → Conditions
-rest lent g = reading_settings lent.settings then reading_room g lent.settings (length lent.bytes) (length lent.u64s)
+module _ (lent : ReadingLent) where
+  -- what is checked after the pair
+  abbrev room : Conditions
+  room = reading_room lent.source lent.settings (length lent.bytes) (length lent.u64s)
 
--- what was lent, by the layouts that were opened
-abbrev opened_as : ReadingLent → Geometry → Geometry → ReadingLent
-opened_as lent g h = record {
-  src = lent.src;
-  source = g;
-  dst = lent.dst;
-  target = h;
-  settings = lent.settings;
-  bytes = lent.bytes;
-  u64s = lent.u64s;
-}
+  abbrev rest : Conditions
+  rest = reading_settings lent.settings then room
 
-module _ {lent : ReadingLent} where
-  -- of a refused call
-  pub refused_call : (e : ImgProcError) → Comes (length lent.src) lent.source (length lent.dst) lent.target (rest lent) (Refused e)
+  -- of a refused call: all is left as it was lent
+  refused_call : {e : ImgProcError} → first (reading_conditions lent) ≡ Err e
       → Reads lent (refused (error_number e)) (record { dst = lent.dst; bytes = lent.bytes; u64s = lent.u64s })
-  refused_call e c = record { answers = rw c.is; leaves = rw c.is; bytes_left = rw c.is refl; u64s_left = rw c.is refl }
+  refused_call r = record { answers = rw r; leaves = rw r; bytes_left = rw r refl; u64s_left = rw r refl }
 
-  -- of an accepted one
-  pub done :
-      {g h : Geometry} {r : ReadingCounts} {left : ReadingLeft}
-      → Pair (length lent.src) lent.source (length lent.dst) lent.target g h
-      → first (reading_settings lent.settings) ≡ Accepted
-      → first (reading_room g lent.settings (length lent.bytes) (length lent.u64s)) ≡ Accepted
-      → ReadDone (opened_as lent g h) r left
-      → Reads lent (accepted (numbers_of r)) left
-  done {g = g} {h = h} {r = r} {left = left} p settings room d =
-      let checks = reading_room g lent.settings (length lent.bytes) (length lent.u64s) in
-      let c = (past p {rest = rest lent} (then_accepted (reading_settings lent.settings) checks settings ∙ room)).is in
-      let same : opened_as lent g h ≡ lent = ap₂ (opened_as lent) (sym (source_same p)) (sym (target_same p)) in
-      let d' = subst (λ (l : ReadingLent). ReadDone l r left) same d in
-      record { answers = rw c (ap accepted d'.counted); leaves = rw c d'.leaves; bytes_left = rw c d'.bytes_long; u64s_left = rw c d'.u64s_long }
+  -- by the pair, by the settings after it, or by the room after both
+  pub refused_by_pair : {e : ImgProcError}
+      → first (pair_conditions (length lent.src) lent.source (length lent.dst) lent.target) ≡ Err e
+      → Reads lent (refused (error_number e)) (record { dst = lent.dst; bytes = lent.bytes; u64s = lent.u64s })
+  refused_by_pair r = refused_call (before (length lent.src) lent.source (length lent.dst) lent.target rest r)
+
+  module _ (p : Paired (length lent.src) lent.source (length lent.dst) lent.target) where
+    rest_is : first (reading_conditions lent) ≡ first rest
+    rest_is = past (length lent.src) lent.source (length lent.dst) lent.target rest p
+
+    pub refused_by_settings : {e : ImgProcError} → first (reading_settings lent.settings) ≡ Err e
+        → Reads lent (refused (error_number e)) (record { dst = lent.dst; bytes = lent.bytes; u64s = lent.u64s })
+    refused_by_settings r = refused_call (rest_is ∙ then_refused (reading_settings lent.settings) room r)
+
+    module _ (settings : first (reading_settings lent.settings) ≡ Ok tt) where
+      room_is : first (reading_conditions lent) ≡ first room
+      room_is = rest_is ∙ then_accepted (reading_settings lent.settings) room settings
+
+      pub refused_by_room : {e : ImgProcError} → first room ≡ Err e
+          → Reads lent (refused (error_number e)) (record { dst = lent.dst; bytes = lent.bytes; u64s = lent.u64s })
+      refused_by_room r = refused_call (room_is ∙ r)
+
+      -- the grid's sides, and all that the work of an accepted call asks
+      pub sized : Sized lent.settings.grid lent.source.width lent.source.height
+      sized =
+          let y = says lent.settings settings in
+          record {
+            wide = p.from.wide;
+            high = p.from.high;
+            small_width = p.from.small_width;
+            small_height = p.from.small_height;
+            tile_width = y.tile_width;
+            tile_height = y.tile_height;
+          }
+
+      module _ (taken : first room ≡ Ok tt) where
+        pub ready : ReadReady lent
+        ready =
+            let fit = room_says lent.source lent.settings _ _ taken in
+            record { pair = p; settings = says lent.settings settings; bytes_fit = fit.0; u64s_fit = fit.1 }
+
+        -- of an accepted call
+        pub done : {r : ReadingCounts} {left : ReadingLeft} → ReadDone lent r left → Reads lent (accepted (numbers_of r)) left
+        done d =
+            let c = room_is ∙ taken in
+            record { answers = rw c (ap accepted d.counted); leaves = rw c d.leaves; bytes_left = rw c d.bytes_long; u64s_left = rw c d.u64s_long }

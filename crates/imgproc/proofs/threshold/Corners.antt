@@ -4,9 +4,9 @@ use native.Mathlib.Nat.{mul-le-mul, mul-le-mul_right, mul-pos, add-sub_of_le, su
 use native.Mathlib.Omega.{arith}
 use mathlib.Core.Path.{◌≡◌, sym, ◌∙◌, subst}
 use mathlib.Core.List.{List}
-use lib.ListN.{length, get_or}
+use lib.ListN.{length}
 use Rattle.image.specs.declared.Geometry.{Geometry}
-use Rattle.image.specs.Layout.{side_limit, area_limit}
+use Rattle.image.specs.Layout.{Kept, side_limit, area_limit}
 use Rattle.image.specs.LayoutLaws.{sides_small}
 use Rattle.image.specs.Plane.{picture}
 use Rattle.imgproc.specs.declared.threshold.SauvolaConfig.{SauvolaConfig}
@@ -16,8 +16,8 @@ use Rattle.imgproc.specs.Sums.{squared, sum, sum_squares, count, box_sum, rect_s
 use Rattle.imgproc.specs.SumLaws.{corners, fold_box_sum, count_is, box_le, mean_square}
 use Rattle.imgproc.specs.Sauvola.{window, threshold, threshold_at_pixel}
 use Rattle.imgproc.specs.SauvolaLaws.{window_some}
-use Rattle.imgproc.specs.Tables.{pixels_of, Holds, Ready, entry_at, Corners, corner_sum, Sane}
-use Rattle.imgproc.proofs.threshold.tables.Entries.{entry, box_small, pixel_byte}
+use Rattle.imgproc.specs.Tables.{pixels_of, Holds, Tables, entry_at, Corners, corner_sum, Sane}
+use Rattle.imgproc.proofs.threshold.tables.Entries.{entry, box_small}
 
 -- a rectangle from x0 to x1 and from y0 to y1, the ends left out
 corners_to :
@@ -88,7 +88,7 @@ pub record WindowSums (d : List ℕ) (g : Geometry) (ws : List ℕ) (base : ℕ)
 -- the window of pixel (x, y), from x0 to x1 and from y0 to y1, the ends left out
 module _
     (d : List ℕ) (g : Geometry) (ws : List ℕ) (base : ℕ) (config : SauvolaConfig)
-    (R : Ready (record { src = d; source = g; workspace = ws; at = base; settings = config })) (byte : (i : ℕ) → get_or d i 0 ≤ 255)
+    (T : Tables d g base ws) (K : Kept (length d) g)
     (x y x0 x1 y0 y1 : ℕ) (a : x < g.width) (b : y < g.height)
     (p0 : x0 ≡ low config.radius x) (p1 : x1 ≡ high config.radius g.width x + 1)
     (q0 : y0 ≡ low config.radius y) (q1 : y1 ≡ high config.radius g.height y + 1)
@@ -101,7 +101,7 @@ module _
 
     bytes : (i j : ℕ) → i < g.width → j < g.height → f i j ≤ 255
     unfolding f
-    bytes i j l m = pixel_byte d g byte i j l m
+    bytes i j l m = T.bytes i j l (omega arith)
 
     squares : (i j : ℕ) → i < g.width → j < g.height → squared f i j ≤ 65025
     squares i j l m = mul-le-mul (bytes i j l m) (bytes i j l m)
@@ -112,25 +112,25 @@ module _
     of_sums : (corner_sum ws base (g.width + 1) x0 y0 x1 y1 ≡ rect_sum f x0 y0 (x1 - x0) (y1 - y0)) × Corners ws base (g.width + 1) x0 y0 x1 y1
     unfolding f
     of_sums =
-        facts f ws base g.width g.height x0 x1 y0 y1 R.tables.sums
+        facts f ws base g.width g.height x0 x1 y0 y1 T.both.sums
         (λ i j l m. le_trans (bytes i j l m) (omega arith))
-        (omega (arith, R.tables.room))
-        R.layout.small_width R.layout.small_height (omega (arith, spans)) (omega (arith, spans)) (omega (arith, spans)) (omega (arith, spans))
+        (omega (arith, T.both.room))
+        K.small_width K.small_height (omega (arith, spans)) (omega (arith, spans)) (omega (arith, spans)) (omega (arith, spans))
 
     of_squares :
         (corner_sum ws (base + (g.width + 1) * (g.height + 1)) (g.width + 1) x0 y0 x1 y1 ≡ rect_sum (squared f) x0 y0 (x1 - x0) (y1 - y0))
         × Corners ws (base + (g.width + 1) * (g.height + 1)) (g.width + 1) x0 y0 x1 y1
     unfolding f
     of_squares =
-        facts (squared f) ws (base + (g.width + 1) * (g.height + 1)) g.width g.height x0 x1 y0 y1 R.tables.squares squares
-        (omega (arith, R.tables.room))
-        R.layout.small_width R.layout.small_height (omega (arith, spans)) (omega (arith, spans)) (omega (arith, spans)) (omega (arith, spans))
+        facts (squared f) ws (base + (g.width + 1) * (g.height + 1)) g.width g.height x0 x1 y0 y1 T.both.squares squares
+        (omega (arith, T.both.room))
+        K.small_width K.small_height (omega (arith, spans)) (omega (arith, spans)) (omega (arith, spans)) (omega (arith, spans))
 
     small_count : (x1 - x0) * (y1 - y0) ≤ area_limit
     small_count =
         sides_small (x1 - x0) (y1 - y0)
-        (le_trans (sub-le x1 x0) (le_trans spans.0.1 R.layout.small_width))
-        (le_trans (sub-le y1 y0) (le_trans spans.1.1 R.layout.small_height))
+        (le_trans (sub-le x1 x0) (le_trans spans.0.1 K.small_width))
+        (le_trans (sub-le y1 y0) (le_trans spans.1.1 K.small_height))
 
     -- the sums that `rect_sum` gave
     module _ (S Q : ℕ) (s : S ≡ corner_sum ws base (g.width + 1) x0 y0 x1 y1)

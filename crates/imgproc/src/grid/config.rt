@@ -27,11 +27,11 @@ pub struct TileThresholdConfig {
     pub method: TileThresholdMethod,
 }
 
-impl TileThresholdConfig {
-    // Gives the settings that the published Rust has by default.
-    pub fn default() -> Self
-        ensures { result ≡ grid_defaults }
-    {
+// The settings that the published Rust has by default.
+impl Default for TileThresholdConfig {
+    ghost is_default = { λ c. c ≡ grid_defaults };
+
+    fn default() -> Self {
         Self {
             tile_width: 16,
             tile_height: 16,

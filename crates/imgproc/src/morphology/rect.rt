@@ -14,110 +14,103 @@ ghost use Rattle.imgproc.specs.Sweeps.{
   TwiceMorphed,
 };
 
-use crate::morphology::sweeps::{Planes, running_extremum_1d, strip_of, sweep_strip};
+use crate::morphology::sweeps::{Planes, running_extremum_1d, sweep_strip};
 use crate::morphology::tally::Tally;
 
+// So many rows are transposed and swept together.
+const STRIP: usize = 32;
+
 // Sweeps along each row, from one plane to another or back to the same, strip by strip.
-fn row_core(tally: Tally, ws: &mut [u8], planes: Planes, kernel: usize, least: bool) -> Tally
+fn row_core<const LEAST: bool>(tally: Tally, ws: &mut [u8], planes: Planes, kernel: usize) -> Tally
     requires { SweepReady tally ws.old planes kernel }
-    ensures { RowsSwept tally ws.old planes kernel least result ws.new }
+    ensures { RowsSwept tally ws.old planes kernel LEAST result ws.new }
 {
     let mut t = tally;
-    let mut y = 0;
-    while y < planes.height {
-        let rows = strip_of(planes.height - y);
-        let at = y * planes.width;
-        let from = planes.from + at;
-        let to = planes.to + at;
-        let strip = Planes {
-            from,
-            to,
-            spare: planes.spare,
-            width: planes.width,
-            height: rows,
-        };
-        t = sweep_strip(t, ws, strip, kernel, least);
-        y += rows;
+    for y in (0..planes.height).step_by(STRIP) {
+        let rows = STRIP.min(planes.height - y);
+        t = sweep_strip::<LEAST>(t, ws, planes.strip(y, rows), kernel);
     }
     t
 }
 
 // Sweeps along each column, from one plane to another or back to the same.
-fn column_core(tally: Tally, ws: &mut [u8], planes: Planes, kernel: usize, least: bool) -> Tally
+fn column_core<const LEAST: bool>(
+    tally: Tally,
+    ws: &mut [u8],
+    planes: Planes,
+    kernel: usize,
+) -> Tally
     requires { SweepReady tally ws.old planes kernel }
-    ensures { ColumnsSwept tally ws.old planes kernel least result ws.new }
+    ensures { ColumnsSwept tally ws.old planes kernel LEAST result ws.new }
 {
-    running_extremum_1d(tally, ws, planes, kernel, least)
+    running_extremum_1d::<LEAST>(tally, ws, planes, kernel)
 }
 
+// The sweeps along rows and along columns differ in their contracts, and one function of both would branch to either.
+
 // Raises the lent tally by what the sweep along each row counted.
-fn sweep_rows(tally: &mut Tally, ws: &mut [u8], planes: Planes, kernel: usize, least: bool)
+fn sweep_rows<const LEAST: bool>(tally: &mut Tally, ws: &mut [u8], planes: Planes, kernel: usize)
     requires { SweepReady tally.old ws.old planes kernel }
-    ensures { RowsSwept tally.old ws.old planes kernel least tally.new ws.new }
+    ensures { RowsSwept tally.old ws.old planes kernel LEAST tally.new ws.new }
 {
-    *tally = row_core(*tally, ws, planes, kernel, least);
+    *tally = row_core::<LEAST>(*tally, ws, planes, kernel);
 }
 
 // Raises the lent tally by what the sweep along each column counted.
-fn sweep_columns(tally: &mut Tally, ws: &mut [u8], planes: Planes, kernel: usize, least: bool)
+fn sweep_columns<const LEAST: bool>(tally: &mut Tally, ws: &mut [u8], planes: Planes, kernel: usize)
     requires { SweepReady tally.old ws.old planes kernel }
-    ensures { ColumnsSwept tally.old ws.old planes kernel least tally.new ws.new }
+    ensures { ColumnsSwept tally.old ws.old planes kernel LEAST tally.new ws.new }
 {
-    *tally = column_core(*tally, ws, planes, kernel, least);
+    *tally = column_core::<LEAST>(*tally, ws, planes, kernel);
 }
 
-// Erodes where `least` is true, else dilates: along the rows with one kernel, then along the columns with another.
-// Lends one tally to both sweeps.
-pub(crate) fn morph_rect_into(
+// Erodes where LEAST is true, else dilates: along the rows with one kernel, then along the columns with another. Lends
+// the lent tally on to both sweeps.
+fn morph_rect<const LEAST: bool>(
+    tally: &mut Tally,
+    ws: &mut [u8],
+    planes: Planes,
+    kernel_width: usize,
+    kernel_height: usize,
+)
+    requires { MorphReady tally.old ws.old planes kernel_width kernel_height }
+    ensures { Morphed tally.old ws.old planes kernel_width kernel_height LEAST tally.new ws.new }
+{
+    sweep_rows::<LEAST>(tally, ws, planes, kernel_width);
+    sweep_columns::<LEAST>(tally, ws, planes.in_place(), kernel_height);
+}
+
+// Erodes where LEAST is true, else dilates. Lends one tally to both sweeps.
+pub(crate) fn morph_rect_into<const LEAST: bool>(
     tally: Tally,
     ws: &mut [u8],
     planes: Planes,
     kernel_width: usize,
     kernel_height: usize,
-    least: bool,
 ) -> Tally
     requires { MorphReady tally ws.old planes kernel_width kernel_height }
-    ensures { Morphed tally ws.old planes kernel_width kernel_height least result ws.new }
+    ensures { Morphed tally ws.old planes kernel_width kernel_height LEAST result ws.new }
 {
     let mut t = tally;
-    let in_place = Planes {
-        from: planes.to,
-        to: planes.to,
-        spare: planes.spare,
-        width: planes.width,
-        height: planes.height,
-    };
-    sweep_rows(&mut t, ws, planes, kernel_width, least);
-    sweep_columns(&mut t, ws, in_place, kernel_height, least);
+    morph_rect::<LEAST>(&mut t, ws, planes, kernel_width, kernel_height);
     t
 }
 
-// Erodes or dilates, then erodes or dilates what that left: erodes where the flag, `first` or `second`, is true.
+// Erodes or dilates, then erodes or dilates what that left: erodes where FIRST or SECOND is true.
 // Lends one tally to all four sweeps.
-fn morph_rect_twice(
+fn morph_rect_twice<const FIRST: bool, const SECOND: bool>(
     tally: Tally,
     ws: &mut [u8],
     planes: Planes,
     kernel_width: usize,
     kernel_height: usize,
-    first: bool,
-    second: bool,
 ) -> Tally
     requires { PairReady tally ws.old planes kernel_width kernel_height }
-    ensures { PairMorphed tally ws.old planes kernel_width kernel_height first second result ws.new }
+    ensures { PairMorphed tally ws.old planes kernel_width kernel_height FIRST SECOND result ws.new }
 {
     let mut t = tally;
-    let in_place = Planes {
-        from: planes.to,
-        to: planes.to,
-        spare: planes.spare,
-        width: planes.width,
-        height: planes.height,
-    };
-    sweep_rows(&mut t, ws, planes, kernel_width, first);
-    sweep_columns(&mut t, ws, in_place, kernel_height, first);
-    sweep_rows(&mut t, ws, in_place, kernel_width, second);
-    sweep_columns(&mut t, ws, in_place, kernel_height, second);
+    morph_rect::<FIRST>(&mut t, ws, planes, kernel_width, kernel_height);
+    morph_rect::<SECOND>(&mut t, ws, planes.in_place(), kernel_width, kernel_height);
     t
 }
 
@@ -126,7 +119,7 @@ pub(crate) fn open_rect_into(tally: Tally, ws: &mut [u8], planes: Planes, kernel
     requires { TwiceReady tally ws.old planes kernel }
     ensures { TwiceMorphed opened tally ws.old planes kernel result ws.new }
 {
-    morph_rect_twice(tally, ws, planes, kernel, kernel, true, false)
+    morph_rect_twice::<true, false>(tally, ws, planes, kernel, kernel)
 }
 
 // Closes: dilates, then erodes what that left.
@@ -134,5 +127,5 @@ pub(crate) fn close_rect_into(tally: Tally, ws: &mut [u8], planes: Planes, kerne
     requires { TwiceReady tally ws.old planes kernel }
     ensures { TwiceMorphed closed tally ws.old planes kernel result ws.new }
 {
-    morph_rect_twice(tally, ws, planes, kernel, kernel, false, true)
+    morph_rect_twice::<false, true>(tally, ws, planes, kernel, kernel)
 }

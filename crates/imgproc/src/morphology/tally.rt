@@ -1,9 +1,9 @@
-// One tally of comparisons. Its number is private: only `lesser` and `greater` raise one, each by 1 with the extreme
-// that it gives, and only `start` makes one. Callers outside the crate have `Tally`, which answers carry, and
-// `comparisons`, which reads its number.
-ghost use Rattle.std.specs.Prelude.{◌≡◌, min, max};
+// One tally of comparisons. Its number is private: only `extreme` raises one, by 1 with the extreme that it gives, and
+// only `start` makes one. Callers outside the crate have `Tally`, which answers carry, and `comparisons`, which reads
+// its number.
+ghost use Rattle.std.specs.Prelude.{◌≡◌};
 ghost use Rattle.imgproc.specs.Tallies.{Raised, HasRoom, Stands};
-ghost use Rattle.imgproc.specs.Compared.{Compares};
+ghost use Rattle.imgproc.specs.Compared.{Compares, extreme};
 
 // How many times two samples were compared.
 #[derive(Clone, Copy)]
@@ -18,18 +18,36 @@ pub(crate) struct Met {
     value: u8,
 }
 
-// Takes the tally out, with that comparison in it.
-pub(crate) fn counted(met: Met) -> Tally
-    ensures { Raised met.tally 0 result }
-{
-    met.tally
+impl Tally {
+    // Takes the lesser of two samples where LEAST is true, else the greater, and counts the comparison.
+    pub(crate) fn extreme<const LEAST: bool>(self, a: u8, b: u8) -> Met
+        requires { HasRoom self 1 }
+        ensures { Compares (extreme LEAST a b) self result }
+    {
+        let (lesser, greater) = if a < b { (a, b) } else { (b, a) };
+        Met {
+            tally: Tally {
+                comparisons: self.comparisons + 1,
+            },
+            value: if LEAST { lesser } else { greater },
+        }
+    }
 }
 
-// Takes the extreme out.
-pub(crate) fn chosen(met: Met) -> u8
-    ensures { result ≡ met.value }
-{
-    met.value
+impl Met {
+    // Takes the tally out, with that comparison in it.
+    pub(crate) fn counted(self) -> Tally
+        ensures { Raised self.tally 0 result }
+    {
+        self.tally
+    }
+
+    // Takes the extreme out.
+    pub(crate) fn chosen(self) -> u8
+        ensures { result ≡ self.value }
+    {
+        self.value
+    }
 }
 
 // Starts a tally, of no comparisons.
@@ -44,34 +62,4 @@ pub fn comparisons(tally: Tally) -> u64
     ensures { result ≡ tally.comparisons }
 {
     tally.comparisons
-}
-
-// Takes the lesser of two samples, and counts the comparison.
-pub(crate) fn lesser(tally: Tally, a: u8, b: u8) -> Met
-    requires { HasRoom tally 1 }
-    ensures { Compares (min a b) tally result }
-{
-    let raised = tally.comparisons + 1;
-    let value = if a < b { a } else { b };
-    Met {
-        tally: Tally {
-            comparisons: raised,
-        },
-        value,
-    }
-}
-
-// Takes the greater of two samples, and counts the comparison.
-pub(crate) fn greater(tally: Tally, a: u8, b: u8) -> Met
-    requires { HasRoom tally 1 }
-    ensures { Compares (max a b) tally result }
-{
-    let counted = tally.comparisons + 1;
-    let value = if a < b { b } else { a };
-    Met {
-        tally: Tally {
-            comparisons: counted,
-        },
-        value,
-    }
 }

@@ -2,145 +2,133 @@
 ghost use Rattle.std.specs.Prelude.{◌≡◌, ◌*◌, ◌<◌, length};
 ghost use Rattle.image.specs.Layout.{Kept};
 ghost use Rattle.image.specs.Plane.{part};
-ghost use Rattle.imgproc.specs.Reading.{judged_over};
-ghost use Rattle.imgproc.specs.ReadingSteps.{JudgeReady, JudgeRoom, Room, RowJudged, PictureJudged};
+ghost use Rattle.imgproc.specs.Reading.{judged_over, byte_of};
+ghost use Rattle.imgproc.specs.ReadingSteps.{Counted, JudgeReady, JudgeRoom, Room, RowJudged, PictureJudged};
 
 use crate::grid::tiles::tiles_along;
 use crate::reading::config::ReadingConfig;
 use crate::threshold::tables::build_tables;
-use crate::threshold::threshold_at_pixel;
-use image::Geometry;
+use crate::threshold::{SauvolaConfig, Thresholds};
+use image::{Geometry, Gray8View};
 
 // What a pixel is judged: its tile may be skipped; else its value is at or below its threshold, or above it.
-#[derive(Clone, Copy)]
+#[derive(Clone, Copy, PartialEq, Eq)]
 pub enum Judgement {
     Dark,
     Light,
     Skipped,
 }
 
-// Judges pixel (x, y) of the opened picture, whose tables stand in the u64 workspace.
-fn judge(
-    opened: &[u8],
-    packed: Geometry,
-    skips: &[u8],
-    workspace: &[u64],
-    at: usize,
-    config: ReadingConfig,
-    x: usize,
-    y: usize,
-) -> Judgement
-    requires ready { JudgeReady opened.now packed skips.now workspace.now at config }
-    requires inside { (x < packed.width) × (y < packed.height) }
-    ensures { result ≡ judged_over config packed.width packed.height opened.now x y }
-{
-    let grid = config.grid;
-    let tiles_x = tiles_along(packed.width, grid.tile_width);
-    let tile = y / grid.tile_height * tiles_x + x / grid.tile_width;
-    if skips[tile] != 0 {
-        return Judgement::Skipped;
-    }
-    let threshold = threshold_at_pixel(opened, packed, workspace, at, config.sauvola, x, y);
-    let place = y * packed.width + x;
-    if opened[place] as u64 <= threshold {
-        Judgement::Dark
-    } else {
-        Judgement::Light
+impl Judgement {
+    // Gives the byte that marks a pixel so judged.
+    fn byte(self, config: SauvolaConfig) -> u8
+        ensures { result ≡ byte_of config self }
+    {
+        match self {
+            Judgement::Dark => config.dark_value,
+            Judgement::Light | Judgement::Skipped => config.light_value,
+        }
     }
 }
 
-// The pixels that were judged dark, light and skipped.
-#[derive(Clone, Copy)]
+// The pixels that were judged dark, light and skipped. `ReadingCounts` adds the tally, which no judgement may touch.
+#[derive(Clone, Copy, Default)]
 pub(crate) struct Judged {
     pub dark: u64,
     pub light: u64,
     pub skipped: u64,
 }
 
-// Judges row y pixel by pixel, counts, and writes the row of the destination.
-fn judge_row(
-    judged: Judged,
-    opened: &[u8],
-    packed: Geometry,
-    skips: &[u8],
-    workspace: &[u64],
-    at: usize,
-    config: ReadingConfig,
-    y: usize,
-    out: &mut [u8],
-) -> Judged
-    requires ready { JudgeReady opened.now packed skips.now workspace.now at config }
-    requires row { (y < packed.height) × ((length out.old ≡ packed.width) × Room judged packed.width) }
-    ensures { RowJudged judged config packed opened.now y result out.new }
-{
-    let sauvola = config.sauvola;
-    let mut counts = judged;
-    let mut next = 0;
-    while next < packed.width {
-        let x = next;
-        next += 1;
-        let judgement = judge(opened, packed, skips, workspace, at, config, x, y);
+impl Judged {
+    // Counts one pixel more.
+    fn add(&mut self, judgement: Judgement)
+        requires { Room self.old 1 }
+        ensures { Counted self.old judgement self.new }
+    {
         match judgement {
-            Judgement::Dark => {
-                counts.dark += 1;
-                out[x] = sauvola.dark_value;
-            }
-            Judgement::Light => {
-                counts.light += 1;
-                out[x] = sauvola.light_value;
-            }
-            Judgement::Skipped => {
-                counts.skipped += 1;
-                out[x] = sauvola.light_value;
-            }
+            Judgement::Dark => self.dark += 1,
+            Judgement::Light => self.light += 1,
+            Judgement::Skipped => self.skipped += 1,
         }
     }
-    counts
 }
 
-// Judges and counts every pixel of the opened picture, row by row into the destination.
-fn judge_rows(
-    opened: &[u8],
-    packed: Geometry,
-    skips: &[u8],
-    workspace: &[u64],
+// An opened picture, its tables, which stand in a workspace from `at` on, the skips of its tiles, and the settings.
+#[derive(Clone, Copy)]
+struct Judge<'a, 't> {
+    opened: Gray8View<'a>,
+    tables: &'t [u64],
     at: usize,
+    skips: &'t [u8],
     config: ReadingConfig,
-    dst: &mut [u8],
-    dst_geometry: Geometry,
-) -> Judged
-    requires ready { JudgeReady opened.now packed skips.now workspace.now at config }
-    requires destination { Kept (length dst.old) dst_geometry
-        × ((dst_geometry.width ≡ packed.width) × (dst_geometry.height ≡ packed.height)) }
-    ensures { PictureJudged config packed opened.now
-        dst.old
-        dst_geometry
-        result
-        dst.new }
-{
-    let mut counts = Judged {
-        dark: 0,
-        light: 0,
-        skipped: 0,
-    };
-    let mut y = 0;
-    while y < packed.height {
-        let from = y * dst_geometry.stride;
-        let to = from + packed.width;
-        counts = judge_row(
-            counts,
-            opened,
-            packed,
-            skips,
-            workspace,
-            at,
-            config,
-            y,
-            &mut dst[from..to],
-        );
-        y += 1;
+    ghost ready: { JudgeReady opened.pixels.now opened.geometry skips.now tables.now at config },
+}
+
+impl<'a, 't> Judge<'a, 't> {
+    // Judges pixel (x, y).
+    fn pixel(self, x: usize, y: usize) -> Judgement
+        requires { (x < self.opened.geometry.width) × (y < self.opened.geometry.height) }
+        ensures { let g = self.entry.opened.geometry in
+            result ≡ judged_over self.entry.config g.width g.height self.entry.opened.pixels.now x y }
+    {
+        let grid = self.config.grid;
+        let width = self.opened.geometry.width;
+        let tiles_x = tiles_along(width, grid.tile_width);
+        let tile = y / grid.tile_height * tiles_x + x / grid.tile_width;
+        if self.skips[tile] != 0 {
+            return Judgement::Skipped;
+        }
+        let thresholds = Thresholds {
+            source: self.opened,
+            tables: self.tables,
+            at: self.at,
+            config: self.config.sauvola,
+        };
+        let threshold = thresholds.at_pixel(x, y);
+        let place = y * width + x;
+        if self.opened.pixels[place] as u64 <= threshold {
+            Judgement::Dark
+        } else {
+            Judgement::Light
+        }
     }
-    counts
+
+    // Judges row y pixel by pixel, counts, and writes the row of the destination.
+    fn row(self, judged: Judged, y: usize, out: &mut [u8]) -> Judged
+        requires { (y < self.opened.geometry.height)
+            × ((length out.old ≡ self.opened.geometry.width) × Room judged self.opened.geometry.width) }
+        ensures { let o = self.entry.opened in
+            RowJudged judged self.entry.config o.geometry o.pixels.now y result out.new }
+    {
+        let mut counts = judged;
+        for x in 0..self.opened.geometry.width {
+            let judgement = self.pixel(x, y);
+            counts.add(judgement);
+            out[x] = judgement.byte(self.config.sauvola);
+        }
+        counts
+    }
+
+    // Judges and counts every pixel of the picture, row by row into the destination.
+    fn rows(self, dst: &mut [u8], dst_geometry: Geometry) -> Judged
+        requires { let g = self.opened.geometry in
+            Kept (length dst.old) dst_geometry
+            × ((dst_geometry.width ≡ g.width) × (dst_geometry.height ≡ g.height)) }
+        ensures { let o = self.entry.opened in
+            PictureJudged self.entry.config o.geometry o.pixels.now
+            dst.old
+            dst_geometry
+            result
+            dst.new }
+    {
+        let mut counts = Judged::default();
+        for y in 0..self.opened.geometry.height {
+            let from = y * dst_geometry.stride;
+            let to = from + self.opened.geometry.width;
+            counts = self.row(counts, y, &mut dst[from..to]);
+        }
+        counts
+    }
 }
 
 // Judges the opened picture, which stands at the start of the byte workspace with its tiles' skips from `marks` on.
@@ -167,15 +155,17 @@ pub(crate) fn judge_picture(
     let count = tiles_along(packed.width, grid.tile_width)
         * tiles_along(packed.height, grid.tile_height);
     let end = marks + count;
-    build_tables(&bytes[..plane], packed, u64s, 0);
-    judge_rows(
-        &bytes[..plane],
-        packed,
-        &bytes[marks..end],
-        u64s,
-        0,
+    let opened = Gray8View {
+        pixels: &bytes[..plane],
+        geometry: packed,
+    };
+    build_tables(opened, u64s, 0);
+    let judge = Judge {
+        opened,
+        tables: u64s,
+        at: 0,
+        skips: &bytes[marks..end],
         config,
-        dst,
-        dst_geometry,
-    )
+    };
+    judge.rows(dst, dst_geometry)
 }

@@ -9,11 +9,9 @@ use Rattle.image.specs.PlaneLaws.{length-tabulate, get_d_tabulate}
 use Rattle.image.specs.Views.{pixel_picture}
 use Rattle.imgproc.specs.declared.grid.config.TileThresholdConfig.{TileThresholdConfig}
 use Rattle.imgproc.specs.declared.grid.tiles.TileNumbers.{TileNumbers}
-use Rattle.imgproc.specs.declared.grid.bytes.TileByte.TheVariants.{Threshold, Skip}
 use Rattle.imgproc.specs.Fold.{bit}
 use Rattle.imgproc.specs.Grid.{tiles_x_of, tiles_y_of, around, skip_of, threshold_of, thresholds, skips}
-use Rattle.imgproc.specs.TileBytes.{byte_by}
-use Rattle.imgproc.specs.Tiles.{numbers_in, GatherLent, GatherReady, Gathers, joined_around, each_tile}
+use Rattle.imgproc.specs.Tiles.{numbers_in, GatherLent, GatherReady, Gathers, joined_around, each_tile, threshold_by, skip_by}
 use Rattle.imgproc.proofs.grid.tiles.Counts.{column, row}
 use Rattle.imgproc.proofs.grid.tiles.Numbers.{same_in}
 use Rattle.imgproc.proofs.grid.tiles.Neighbours.{around_joined, some_around}
@@ -57,10 +55,10 @@ module _ (lent : GatherLent) {ws : List ℕ} (ready : GatherReady lent) (gathers
       tabulate_same _ _ (tiles_x_of g w * tiles_y_of g h)
       (λ t T. ap by (joined_picture (t % tiles_x_of g w) (t / tiles_x_of g w) (column z refl refl t) (row z refl refl t T)) ∙ e (t % tiles_x_of g w) (t / tiles_x_of g w))
 
-  pub thresholds_are : each_tile (byte_by Threshold g) g w h lent.at ws ≡ thresholds g w h p
+  pub thresholds_are : each_tile (threshold_by g) g w h lent.at ws ≡ thresholds g w h p
   unfolding thresholds threshold_of
-  thresholds_are = bytes_are (byte_by Threshold g) (threshold_of g w h p) (λ i j. refl)
+  thresholds_are = bytes_are (threshold_by g) (threshold_of g w h p) (λ i j. refl)
 
-  pub skips_are : each_tile (byte_by Skip g) g w h lent.at ws ≡ skips g w h p
+  pub skips_are : each_tile (skip_by g) g w h lent.at ws ≡ skips g w h p
   unfolding skips skip_of
-  skips_are = bytes_are (byte_by Skip g) (λ i j. bit (skip_of g w h p i j)) (λ i j. refl)
+  skips_are = bytes_are (skip_by g) (λ i j. bit (skip_of g w h p i j)) (λ i j. refl)

@@ -6,38 +6,47 @@ use Rattle.imgproc.specs.GridCalls.{grid_settings, tile_count, grid_room}
 use Rattle.imgproc.specs.Refusals.{first}
 use Rattle.imgproc.specs.Tiles.{Sized}
 use Rattle.imgproc.specs.RefusalLaws.{then_accepted, then_refused}
+use Rattle.imgproc.proofs.WaysOut.{passed}
 use Rattle.imgproc.proofs.grid.Ways.{sides_accepted}
 use Rattle.imgproc.proofs.grid.tiles.Counts.{few, total}
 use Rattle.imgproc.proofs.grid.check_build.Goals as goal
-use Rattle.imgproc.proofs.grid.check_build.Goals.{In-Accepted}
+use Rattle.imgproc.proofs.grid.check_build.Goals.{In_ok-check_settings}
 
-pub returns-in_default : goal.returns-in_default
-returns-in_default c =
+pub returns-in_err-check_settings : goal.returns-in_err-check_settings
+returns-in_err-check_settings c =
     let a = c.args in
-    c.in_default.is
+    passed _ c.from_residual.ensures.1
     ∙ sym
     (then_refused (grid_settings a.config)
-    (grid_room (tile_count a.config a.geometry.width a.geometry.height) a.room a.threshold_room a.skip_room)
-    (sym c.check_settings-settings.ensures ∙ c.in_default.is))
+    (grid_room (tile_count a.config a.source.geometry.width a.source.geometry.height) a.room a.threshold_room a.skip_room)
+    (sym c.in_err-check_settings.ensures))
 
 -- settings that were accepted
-sized : (c : In-Accepted)
-    → Sized c.args.config c.args.geometry.width c.args.geometry.height
+sized : (c : In_ok-check_settings)
+    → Sized c.args.config c.args.source.geometry.width c.args.source.geometry.height
 sized c =
-    let d = sides_accepted c.args.config (sym c.check_settings-settings.ensures ∙ c.in-Accepted.is) in
-    record { wide = c.requires.0; high = c.requires.2; small_width = c.requires.1; small_height = c.requires.3; tile_width = d.0; tile_height = d.1 }
+    let d = sides_accepted c.args.config (sym c.in_ok-check_settings.ensures) in
+    let k = c.args.source.kept in
+    record {
+      wide = k.wide;
+      high = k.high;
+      small_width = k.small_width;
+      small_height = k.small_height;
+      tile_width = d.0;
+      tile_height = d.1;
+    }
 
 pub tiles_along-tiles_x-requires : goal.tiles_along-tiles_x-requires
-tiles_along-tiles_x-requires c = (sized (goal.at.tiles_along-tiles_x-requires c).In-Accepted).tile_width
+tiles_along-tiles_x-requires c = (sized (goal.at.tiles_along-tiles_x-requires c).In_ok-check_settings).tile_width
 
 pub tiles_along-tiles_y-requires : goal.tiles_along-tiles_y-requires
-tiles_along-tiles_y-requires c = (sized (goal.at.tiles_along-tiles_y-requires c).In-Accepted).tile_height
+tiles_along-tiles_y-requires c = (sized (goal.at.tiles_along-tiles_y-requires c).In_ok-check_settings).tile_height
 
 pub overflow_mul-tiles_x : goal.overflow_mul-tiles_x
-overflow_mul-tiles_x c = omega (arith, few (sized (goal.at.overflow_mul-tiles_x c).In-Accepted) c.tiles_along-tiles_x.ensures c.tiles_along-tiles_y.ensures)
+overflow_mul-tiles_x c = omega (arith, few (sized (goal.at.overflow_mul-tiles_x c).In_ok-check_settings) c.tiles_along-tiles_x.ensures c.tiles_along-tiles_y.ensures)
 
 pub check_room-requires : goal.check_room-requires
-check_room-requires c = few (sized (goal.at.check_room-requires c).In-Accepted) c.tiles_along-tiles_x.ensures c.tiles_along-tiles_y.ensures
+check_room-requires c = few (sized (goal.at.check_room-requires c).In_ok-check_settings) c.tiles_along-tiles_x.ensures c.tiles_along-tiles_y.ensures
 
 pub returns : goal.returns
 returns c =
@@ -45,8 +54,8 @@ returns c =
     c.check_room.ensures
     ∙ ap
     (λ (n : ℕ). first (grid_room n a.room a.threshold_room a.skip_room))
-    (total (sized (goal.at.returns c).In-Accepted) c.tiles_along-tiles_x.ensures c.tiles_along-tiles_y.ensures)
+    (total (sized (goal.at.returns c).In_ok-check_settings) c.tiles_along-tiles_x.ensures c.tiles_along-tiles_y.ensures)
     ∙ sym
     (then_accepted (grid_settings a.config)
-    (grid_room (tile_count a.config a.geometry.width a.geometry.height) a.room a.threshold_room a.skip_room)
-    (sym c.check_settings-settings.ensures ∙ c.in-Accepted.is))
+    (grid_room (tile_count a.config a.source.geometry.width a.source.geometry.height) a.room a.threshold_room a.skip_room)
+    (sym c.in_ok-check_settings.ensures))

@@ -1,27 +1,28 @@
 -- `check_settings` meets its contract. Assumes nothing.
-use mathlib.Core.Path.{◌≡◌, sym, ◌∙◌}
-use mathlib.Core.Bool.{true, false}
+use Rattle.std.proofs.Common.{◌≡◌, sym, ◌∙◌, true, false, eq-eqb, ne_eqb}
 use Rattle.imgproc.specs.GridCalls.{usable_method, grid_settings}
 use Rattle.imgproc.specs.Refusals.{first}
-use borrow.Author.Tests.{eq-eqb, ne_eqb}
 use Rattle.imgproc.proofs.grid.check_settings.Goals as goal
+use Rattle.imgproc.proofs.grid.check_settings.Goals.{
+  then-config-eq0-via-then-config-eq0,
+  then-config-eq0-via-else-config-eq0+then-config-eq0-2,
+  then-config-eq0-via-else-config-eq0+else-config-eq0-2+then-not-usable_method,
+}
 
 pub returns-then-config-eq0 : goal.returns-then-config-eq0
 unfolding first grid_settings
-returns-then-config-eq0 c = simp (eq-eqb _ _ c.if-config-eq0.true)
+returns-then-config-eq0 c =
+    elim c.then-config-eq0.branch [
+      | then-config-eq0-via-then-config-eq0 w ↦ simp (eq-eqb _ _ w.if-config-eq0.true)
+      | then-config-eq0-via-else-config-eq0+then-config-eq0-2 w ↦
+          simp (ne_eqb _ _ w.if-config-eq0.false, eq-eqb _ _ w.if-config-eq0-2.true)
+      | then-config-eq0-via-else-config-eq0+else-config-eq0-2+then-not-usable_method w ↦
+          let u : usable_method c.args.config.method ≡ false = sym w.usable_method.ensures ∙ w.if-not-usable_method.true in
+          simp (ne_eqb _ _ w.if-config-eq0.false, ne_eqb _ _ w.if-config-eq0-2.false, u)
+    ]
 
-pub returns-then-config-eq0-2 : goal.returns-then-config-eq0-2
+pub returns : goal.returns
 unfolding first grid_settings
-returns-then-config-eq0-2 c = simp (ne_eqb _ _ c.if-config-eq0.false, eq-eqb _ _ c.if-config-eq0-2.true)
-
-pub returns-then-usable_method : goal.returns-then-usable_method
-unfolding first grid_settings
-returns-then-usable_method c =
-    let u : usable_method c.args.config.method ≡ true = sym c.usable_method.ensures ∙ c.if-usable_method.true in
-    simp (ne_eqb _ _ c.if-config-eq0.false, ne_eqb _ _ c.if-config-eq0-2.false, u)
-
-pub returns-else-usable_method : goal.returns-else-usable_method
-unfolding first grid_settings
-returns-else-usable_method c =
-    let u : usable_method c.args.config.method ≡ false = sym c.usable_method.ensures ∙ c.if-usable_method.false in
+returns c =
+    let u : usable_method c.args.config.method ≡ true = sym c.usable_method.ensures ∙ c.if-not-usable_method.false in
     simp (ne_eqb _ _ c.if-config-eq0.false, ne_eqb _ _ c.if-config-eq0-2.false, u)

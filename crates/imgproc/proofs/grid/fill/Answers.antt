@@ -1,8 +1,5 @@
 -- `fill` meets its contract. Assumes nothing.
-use mathlib.Core.Path.{ap, ◌∙◌}
-use mathlib.Core.List.{List}
-use Prim.Native.Nat.{ℕ}
-use native.Mathlib.Omega.{arith}
+use Rattle.std.proofs.Common.{ℕ, List, arith, ap, ◌∙◌}
 use Rattle.image.specs.Plane.{overwritten}
 use Rattle.imgproc.specs.Tiles.{GatherLent, GatherReady}
 use Rattle.imgproc.proofs.grid.bytes.Tables.{thresholds_are, skips_are}
@@ -13,30 +10,19 @@ use Rattle.imgproc.proofs.grid.fill.Goals.{Start}
 abbrev lent : Start → GatherLent
 lent s =
     let a = s.args in
-    record { src = a.src.now; source = a.geometry; settings = a.config; workspace = a.workspace.now; at = 0 }
-
-ready : (s : Start) → GatherReady (lent s)
-ready s = record { layout = s.requires.layout; sized = s.requires.sized; room = omega (arith, s.requires.rooms.workspace) }
-
-pub gather-requires : goal.gather-requires
-gather-requires c = ready (goal.at.gather-requires c).Start
-
-pub write_skips-requires : goal.write_skips-requires
-write_skips-requires c =
-    (c.requires.sized, record { picture = _; gathered = c.gather.ensures.gathered }, omega (arith, c.requires.rooms.skips))
+    record { src = a.source.pixels.now; source = a.source.geometry; settings = a.config; workspace = a.workspace.now; at = 0 }
 
 pub returns : goal.returns
 returns c =
     let a = c.args in
-    let s = (goal.at.returns c).Start in
+    let t = c.new-table.ensures in
+    let ready : GatherReady (lent (goal.at.returns c).Start) = record { sized = c.requires.sized; room = omega (arith, c.requires.rooms.workspace) } in
     record {
       thresholds_left =
-          c.write_thresholds.ensures
-          ∙ ap (λ (p : List ℕ). overwritten 0 p a.thresholds.now)
-          (thresholds_are (lent s) (ready s) c.gather.ensures);
+          rw (t.0, t.1, t.2, t.3, t.4) at c.write_bytes.ensures
+          ∙ ap (λ (p : List ℕ). overwritten 0 p a.thresholds.now) (thresholds_are (lent (goal.at.returns c).Start) ready c.gather.ensures);
       skips_left =
-          c.write_skips.ensures
-          ∙ ap (λ (p : List ℕ). overwritten 0 p a.skips.now)
-          (skips_are (lent s) (ready s) c.gather.ensures);
+          rw (t.0, t.1, t.2, t.3, t.4) at c.write_bytes-2.ensures
+          ∙ ap (λ (p : List ℕ). overwritten 0 p a.skips.now) (skips_are (lent (goal.at.returns c).Start) ready c.gather.ensures);
       long = c.gather.ensures.long;
     }

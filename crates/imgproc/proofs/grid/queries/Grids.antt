@@ -1,5 +1,6 @@
 -- A grid that a query accepted: its sides, its tile counts, and where its tiles lie. Assumes nothing.
-use mathlib.Core.Path.{◌≡◌, refl, sym, ap, ◌∙◌}
+use Rattle.std.specs.Prelude.{Ok, Err}
+use mathlib.Core.Path.{◌≡◌, refl, sym}
 use mathlib.Core.Bool.{Bool, true, false, not, ◌&&◌}
 use Prim.Native.Nat.{ℕ, suc, ◌+◌, ◌-◌, ◌*◌, ◌/◌, ◌≤◌, ◌<◌}
 use native.Mathlib.Nat.{pos_of_ne-zero, mul-le-mul_right, suc-mul, mul_comm, le-div_iff_mul-le, div-mul-le_self}
@@ -9,13 +10,8 @@ use borrow.Author.Tests.{ltb-true, ltb-false, eqb-true, eqb-false}
 use Rattle.image.specs.Layout.{side_limit}
 use Rattle.image.specs.declared.LumaError.TheVariants.{OutsidePicture}
 use Rattle.image.specs.LayoutLaws.{neither}
-use Rattle.imgproc.specs.declared.ImgProcError.{ImgProcError}
 use Rattle.imgproc.specs.declared.ImgProcError.TheVariants.{Image, InvalidConfiguration, GridBufferTooSmall}
-use Rattle.imgproc.specs.declared.Check.{Check}
-use Rattle.imgproc.specs.declared.Check.TheVariants.{Accepted, Refused}
 use Rattle.imgproc.specs.declared.grid.queries.TileThresholdGrid.{TileThresholdGrid}
-use Rattle.imgproc.specs.declared.grid.queries.TilePlace.{TilePlace}
-use Rattle.imgproc.specs.declared.grid.queries.TilePlace.TheVariants.{At, Refused as TilePlace-as-Refused}
 use Rattle.imgproc.specs.Reach.{ceiling}
 use Rattle.imgproc.specs.Grid.{tiles_limit}
 use Rattle.imgproc.specs.GridLaws.{tiles_small}
@@ -25,15 +21,14 @@ use Rattle.imgproc.specs.GridCalls.{
   query_conditions,
   pixel_conditions,
   row_conditions,
+  Place,
   place_by,
   tile_of,
   tile_row_of,
   pixel_place,
   row_place,
-  place_refusal,
 }
-use Rattle.imgproc.specs.Refusals.{error_number, first, ◌then◌, refused_if, answer_by}
-use Rattle.image.specs.Answers.{accepted, refused}
+use Rattle.imgproc.specs.Refusals.{Check, first, ◌then◌, refused_if}
 use Rattle.imgproc.specs.RefusalLaws.{both_accepted, not_refused}
 
 -- a grid that is one
@@ -92,7 +87,7 @@ pub record Asked (q : TileThresholdGrid) (len : ℕ) (inside : Bool) : Type 0 wh
   pub room : q.tiles_x * q.tiles_y ≤ len
   pub there : inside ≡ true
 
-pub asked : (q : TileThresholdGrid) (len : ℕ) (inside : Bool) → first (query_conditions q len inside) ≡ Accepted → Asked q len inside
+pub asked : (q : TileThresholdGrid) (len : ℕ) (inside : Bool) → first (query_conditions q len inside) ≡ Ok tt → Asked q len inside
 asked q len inside e =
     let short = ltb len (q.tiles_x * q.tiles_y) in
     let buffer = refused_if short GridBufferTooSmall in
@@ -114,45 +109,23 @@ inside_pixel {q} {len} {x} {y} a = let b = both (ltb x q.width) (ltb y q.height)
 
 -- a place that was handed out
 module _ (c : Check) (n i : ℕ) where
-  pub placed : place_by c n ≡ At i → (c ≡ Accepted) × (n ≡ i)
+  pub placed : place_by c n ≡ Ok i → (c ≡ Ok tt) × (n ≡ i)
   placed = go c
     where
-      same : {a b : ℕ} → At a ≡ At b → a ≡ b
+      same : {a b : ℕ} → ◌≡◌ {A = Place} (Ok a) (Ok b) → a ≡ b
       same {a} {b} e = cc
 
-      go : (k : Check) → place_by k n ≡ At i → (k ≡ Accepted) × (n ≡ i)
-      go Accepted e = (refl, same e)
-      go (Refused x) e = let z : ◌≡◌ {A = ℕ} 0 1 = cc in absurd (omega arith)
+      go : (k : Check) → place_by k n ≡ Ok i → (k ≡ Ok tt) × (n ≡ i)
+      go (Ok u) e = (refl, same e)
+      go (Err x) e = let z : ◌≡◌ {A = ℕ} 0 1 = cc in absurd (omega arith)
 
-pub pixel_within : (q : TileThresholdGrid) (len x y i : ℕ) → pixel_place q len x y ≡ At i → i < len
+pub pixel_within : (q : TileThresholdGrid) (len x y i : ℕ) → pixel_place q len x y ≡ Ok i → i < len
 pixel_within q len x y i e =
     let p = placed (first (pixel_conditions q len x y)) (tile_of q x y) i e in
     let a = asked q len (ltb x q.width && ltb y q.height) p.0 in
     let t = inside_pixel {q = q} {len = len} {x = x} {y = y} a in omega (arith, p.1, a.room, tile_row a.grid y t.1, tile_column a.grid x t.0)
 
-pub row_within : (q : TileThresholdGrid) (len y i : ℕ) → row_place q len y ≡ At i → i + q.tiles_x ≤ len
+pub row_within : (q : TileThresholdGrid) (len y i : ℕ) → row_place q len y ≡ Ok i → i + q.tiles_x ≤ len
 row_within q len y i e =
     let p = placed (first (row_conditions q len y)) (tile_row_of q y) i e in
     let a = asked q len (ltb y q.height) p.0 in omega (arith, p.1, a.room, tile_row a.grid y (ltb-true _ _ a.there))
-
--- the ways out of a query for a place
-module _ {c k : Check} (n : ℕ) (p : k ≡ c) where
-  pub place_refused : {e : ImgProcError} → k ≡ Refused e → TilePlace-as-Refused e ≡ place_by c n
-  place_refused q = ap (λ (x : Check). place_by x n) (sym q ∙ p)
-
-  pub place_there : k ≡ Accepted → At n ≡ place_by c n
-  place_there q = ap (λ (x : Check). place_by x n) (sym q ∙ p)
-
--- an answer by the place: a refusal is passed on
-module _ {A : Type 0} (c : Check) (n : ℕ) {p : TilePlace} (is : p ≡ place_by c n) where
-  pub answer_refused : (values : A) {e r : ImgProcError} → p ≡ TilePlace-as-Refused e → r ≡ place_refusal p → refused (error_number r) ≡ answer_by c values
-  answer_refused values told found = ap (λ (x : ImgProcError). refused (error_number x)) (found ∙ ap place_refusal told) ∙ go c (sym is ∙ told)
-    where
-      go : (k : Check) {e : ImgProcError} → place_by k n ≡ TilePlace-as-Refused e → refused (error_number e) ≡ answer_by k values
-      go Accepted q = let z : ◌≡◌ {A = ℕ} 0 1 = cc in absurd (omega arith)
-      go (Refused x) {e} q = let z : x ≡ e = cc in ap (λ (y : ImgProcError). refused (error_number y)) (sym z)
-
-  pub answer_there : (value : ℕ → A) {i : ℕ} → p ≡ At i → accepted (value i) ≡ answer_by c (value n)
-  answer_there value told =
-      let q = placed c n _ (sym is ∙ told) in
-      ap (λ (m : ℕ). accepted (value m)) (sym q.1) ∙ ap (λ (k : Check). answer_by k (value n)) (sym q.0)

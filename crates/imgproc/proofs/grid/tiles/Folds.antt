@@ -1,8 +1,10 @@
--- Folds: one sample more, two neighbouring ranges, two neighbouring boxes, equal samples, a fold that starts from a neutral number, and how
--- large a sum can get. One law over the joining operation serves minima, maxima and sums. Assumes nothing.
+-- Folds: one sample more, two neighbouring ranges, two neighbouring boxes, equal samples, samples counted from another place, a fold that
+-- starts from a neutral number, and how large a sum can get. One law over the joining operation serves minima, maxima and sums. Assumes
+-- nothing.
 use mathlib.Core.Path.{◌≡◌, refl, sym, ap, ap₂, ◌∙◌}
 use Prim.Native.Nat.{ℕ, zero, suc, ◌+◌, ◌-◌, ◌*◌, ◌≤◌, ◌<◌}
-use native.Mathlib.Nat.{add-zero, add-suc, sub_self}
+use native.Mathlib.Nat.{add-zero, add-suc, sub_self, suc-mul}
+use native.Mathlib.Numerals.{add-one}
 use native.Mathlib.Omega.{arith}
 use Rattle.imgproc.specs.Fold.{fold_from, fold_over, Box, fold_box}
 
@@ -81,37 +83,46 @@ module _ (op : ℕ → ℕ → ℕ) (j : Joining op) where
       from_same op _ (λ y. op (fold_over op (λ x. f x y) l m) (fold_over op (λ x. f x y) (m + 1) r)) t (b - t) (λ y u v. fold_split (λ x. f x y) l m r p q)
       ∙ from_pairs (λ y. fold_over op (λ x. f x y) l m) (λ y. fold_over op (λ x. f x y) (m + 1) r) t (b - t)
 
+-- the same samples, counted from another place
+module _ (op : ℕ → ℕ → ℕ) (f : ℕ → ℕ) (a : ℕ) where
+  from_shift : (n : ℕ) → fold_from op (λ i. f (a + i)) 0 n ≡ fold_from op f a n
+  unfolding fold_from
+  from_shift zero = ap f (add-zero a)
+  from_shift (suc n) = let e : 0 + suc n ≡ suc n = omega arith in ap₂ op (from_shift n) (ap (λ (i : ℕ). f (a + i)) e)
+
+  pub fold_shift : (b : ℕ) → a ≤ b → fold_over op (λ i. f (a + i)) 0 (b - a) ≡ fold_over op f a b
+  unfolding fold_over
+  fold_shift b t = let e : b - a - 0 ≡ b - a = omega arith in ap (fold_from op (λ i. f (a + i)) 0) e ∙ from_shift (b - a)
+
 -- ---- a fold that starts from e
 
--- e joined with f a, f (a + 1), .., n of them
-unfoldable pub running : (ℕ → ℕ → ℕ) → ℕ → (ℕ → ℕ) → ℕ → ℕ → ℕ
-running op e f a zero = e
-running op e f a (suc n) = op (running op e f a n) (f (a + n))
+-- e joined with f 0, f 1, .., n of them
+unfoldable pub running : (ℕ → ℕ → ℕ) → ℕ → (ℕ → ℕ) → ℕ → ℕ
+running op e f zero = e
+running op e f (suc n) = op (running op e f n) (f n)
 
-module _ (op : ℕ → ℕ → ℕ) (e : ℕ) (f : ℕ → ℕ) (a : ℕ) where
-  pub running_none : e ≡ running op e f a (a - a)
+module _ (op : ℕ → ℕ → ℕ) (e : ℕ) (f : ℕ → ℕ) where
+  pub running_none : e ≡ running op e f 0
   unfolding running
-  running_none = ap (running op e f a) (sym (sub_self a))
+  running_none = refl
 
-  pub running_more : (i : ℕ) → a ≤ i → op (running op e f a (i - a)) (f i) ≡ running op e f a (i + 1 - a)
+  pub running_more : (n : ℕ) → op (running op e f n) (f n) ≡ running op e f (n + 1)
   unfolding running
-  running_more i t =
-      let n : i + 1 - a ≡ suc (i - a) = omega arith in
-      let s : a + (i - a) ≡ i = omega arith in ap (λ (k : ℕ). op (running op e f a (i - a)) (f k)) (sym s) ∙ ap (running op e f a) (sym n)
+  running_more n = ap (running op e f) (sym (add-one n))
 
-  from_running : op e (f a) ≡ f a → (n : ℕ) → running op e f a (suc n) ≡ fold_from op f a n
+  from_running : op e (f 0) ≡ f 0 → (n : ℕ) → running op e f (suc n) ≡ fold_from op f 0 n
   unfolding running fold_from
-  from_running h zero = ap (λ (i : ℕ). op e (f i)) (add-zero a) ∙ h
-  from_running h (suc n) = ap (λ (x : ℕ). op x (f (a + suc n))) (from_running h n)
+  from_running h zero = h
+  from_running h (suc n) = let k : suc n ≡ 0 + suc n = omega arith in ap₂ op (from_running h n) (ap f k)
 
   -- where e changes nothing, that is the fold
-  pub running_all : op e (f a) ≡ f a → (i b : ℕ) → b ≤ i → i ≤ b → a < b → running op e f a (i - a) ≡ fold_over op f a (b - 1)
+  pub running_all : op e (f 0) ≡ f 0 → (n : ℕ) → 0 < n → running op e f n ≡ fold_over op f 0 (n - 1)
   unfolding fold_over
-  running_all h i b p q t = let n : i - a ≡ suc (b - 1 - a) = omega arith in ap (running op e f a) n ∙ from_running h (b - 1 - a)
+  running_all h n t = let k : n ≡ suc (n - 1 - 0) = omega arith in ap (running op e f) k ∙ from_running h (n - 1 - 0)
 
 -- ---- how large
 
-pub running_small : (K : ℕ) (f : ℕ → ℕ) (a : ℕ) → ((i : ℕ) → f i ≤ K) → (n : ℕ) → running ◌+◌ 0 f a n ≤ n * K
+pub running_small : (K : ℕ) (f : ℕ → ℕ) → ((i : ℕ) → f i ≤ K) → (n : ℕ) → running ◌+◌ 0 f n ≤ n * K
 unfolding running
-running_small K f a s zero = omega arith
-running_small K f a s (suc n) = omega (arith, running_small K f a s n, s (a + n), native.Mathlib.Nat.suc-mul n K)
+running_small K f s zero = omega arith
+running_small K f s (suc n) = omega (arith, running_small K f s n, s n, suc-mul n K)

@@ -1,5 +1,5 @@
 -- The numbers of the tiles stored one after another. Assumes nothing.
-use mathlib.Core.Path.{◌≡◌, refl, sym, ap, ap₂, ◌∙◌}
+use mathlib.Core.Path.{◌≡◌, sym, ap, ap₂, ◌∙◌, subst}
 use mathlib.Core.List.{List}
 use mathlib.Core.Logic.{⊎_elim}
 use Prim.Native.Nat.{ℕ, ◌+◌, ◌*◌, ◌/◌, ◌%◌, ◌≤◌, ◌<◌}
@@ -34,47 +34,56 @@ tiles_of src s g k =
 pub record StoredTo (n : ℕ → TileNumbers) (at t : ℕ) (before after : List ℕ) : Type 0 where
   pub long : length after ≡ length before
   pub each : (k : ℕ) → k < t → entry after (at + 5 * k) ≡ n k
+  pub bytes : (k : ℕ) → k < t → (n k).maximum < 256
   pub before_it : (i : ℕ) → i < at → get_or after i 0 ≡ get_or before i 0
   pub after_it : (i : ℕ) → at + 5 * t ≤ i → get_or after i 0 ≡ get_or before i 0
 
-pub stored_none : (n : ℕ → TileNumbers) (at : ℕ) (ws : List ℕ) → StoredTo n at 0 ws ws
-stored_none n at ws = record { long = refl; each = λ k h. absurd (omega arith); before_it = λ i h. refl; after_it = λ i h. refl }
-
-pub stored_more : (n : ℕ → TileNumbers) (at t : ℕ) (ws a b : List ℕ) (v : TileNumbers) → StoredTo n at t ws a → v ≡ n t → Stores (at + 5 * t) v a b
-    → StoredTo n at (t + 1) ws b
-stored_more n at t ws a b v s e p = record {
+pub stored_more : (n : ℕ → TileNumbers) (at t : ℕ) (ws a b : List ℕ) (v : TileNumbers) → StoredTo n at t ws a → v ≡ n t → v.maximum < 256
+    → Stores (at + 5 * t) v a b → StoredTo n at (t + 1) ws b
+stored_more n at t ws a b v s e byte p = record {
   long = p.long ∙ s.long;
   each = λ k h. ⊎_elim
       (λ (q : k ≡ t). ap (λ (i : ℕ). entry b (at + 5 * i)) q ∙ p.here ∙ e ∙ ap n (sym q))
       (λ (q : k < t). entry_same b a (at + 5 * k) (λ i u w. p.before_it i (omega arith)) ∙ s.each k q)
+      (eq-or-lt_of_le {n = k} {m = t} (omega arith));
+  bytes = λ k h. ⊎_elim
+      (λ (q : k ≡ t). subst (λ (u : TileNumbers). u.maximum < 256) (e ∙ ap n (sym q)) byte)
+      (λ (q : k < t). s.bytes k q)
       (eq-or-lt_of_le {n = k} {m = t} (omega arith));
   before_it = λ i h. p.before_it i (omega arith) ∙ s.before_it i h;
   after_it = λ i h. p.after_it i (omega arith) ∙ s.after_it i (omega arith);
 }
 
 -- at the end every tile's numbers are there
-pub gathered_all : (lent : GatherLent) (t : ℕ) (after : List ℕ) → ((i : ℕ) → get_or lent.src i 0 < 256) → GatherReady lent
+pub gathered_all : (lent : GatherLent) (t : ℕ) (after : List ℕ) → GatherReady lent
     → t ≡ tiles_x_of lent.settings lent.source.width * tiles_y_of lent.settings lent.source.height
     → StoredTo (tiles_of lent.src lent.source lent.settings) lent.at t lent.workspace after
     → Gathers lent after
-gathered_all lent t after bytes ready e p =
+gathered_all lent t after ready e p =
     let s = lent.source in
     let g = lent.settings in
-    let at = lent.at in
-    let tx = tiles_x_of g s.width in
-    let ty = tiles_y_of g s.height in
     record {
       long = p.long;
       gathered = record {
         room = omega (arith, p.long, ready.room);
-        bytes = λ x y. bytes (y * s.stride + x);
+        bytes = λ i j I J.
+            subst (λ (u : TileNumbers). u.maximum < 256) (sym (stands i j I J)) (p.bytes (j * tx + i) (number i j I J));
         each = λ i j I J.
-            let k : j * tx + i < t = omega (arith, mul-le-mul_right tx J, suc-mul j tx, mul_comm tx ty) in
-            let q : at + 5 * (j * tx) + 5 * i ≡ at + 5 * (j * tx + i) = omega arith in
-            ap (entry after) q
-            ∙ p.each (j * tx + i) k
+            stands i j I J
             ∙ ap₂ (λ (x y : ℕ). numbers_in (pixel lent.src s.stride) (tile g s.width s.height x y)) (digits_mod j I) (digits_div j I);
       };
       before_it = p.before_it;
       after_it = λ i h. p.after_it i (omega arith);
     }
+  where
+    tx : ℕ
+    tx = tiles_x_of lent.settings lent.source.width
+
+    number : (i j : ℕ) → i < tx → j < tiles_y_of lent.settings lent.source.height → j * tx + i < t
+    number i j I J = omega (arith, e, mul-le-mul_right tx J, suc-mul j tx, mul_comm tx (tiles_y_of lent.settings lent.source.height))
+
+    stands : (i j : ℕ) → i < tx → j < tiles_y_of lent.settings lent.source.height
+        → entry after (lent.at + 5 * (j * tx) + 5 * i) ≡ tiles_of lent.src lent.source lent.settings (j * tx + i)
+    stands i j I J =
+        let q : lent.at + 5 * (j * tx) + 5 * i ≡ lent.at + 5 * (j * tx + i) = omega arith in
+        ap (entry after) q ∙ p.each (j * tx + i) (number i j I J)

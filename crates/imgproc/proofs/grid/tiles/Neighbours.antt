@@ -7,12 +7,14 @@ use native.Mathlib.Nat.{add-zero, add-suc, suc-mul, mul-le-mul_right, le_trans}
 use native.Mathlib.Omega.{arith}
 use Rattle.imgproc.specs.declared.grid.config.TileThresholdConfig.{TileThresholdConfig}
 use Rattle.imgproc.specs.Fold.{Box}
-use Rattle.imgproc.specs.Extremes.{Some, lowest, highest, fold_box_extreme}
+use Rattle.imgproc.specs.Extremes.{Some}
 use Rattle.imgproc.specs.Reach.{low, high, ceiling}
 use Rattle.imgproc.specs.Grid.{tiles_x_of, tiles_y_of, tile_from, tile_to, around}
-use Rattle.imgproc.specs.GridLaws.{tile_starts, ceiling_small, around_some}
-use Rattle.imgproc.specs.Tiles.{Sized, numbers_in, joined, join_from, join_over, tile_entry, Gathered, Small, SmallGrid, Proper, joined_around}
-use Rattle.imgproc.proofs.grid.tiles.Numbers.{below, beside, small}
+use Rattle.imgproc.specs.GridLaws.{tile_starts, around_some}
+use Rattle.imgproc.specs.Tiles.{Sized, numbers_in, joined, join_from, join_over, tile_entry, Gathered, ProperGrid, Proper, joined_around}
+use Rattle.imgproc.specs.declared.grid.tiles.TileNumbers.{TileNumbers}
+use Rattle.imgproc.proofs.grid.tiles.Joins.{join_maximum}
+use Rattle.imgproc.proofs.grid.tiles.Numbers.{below, beside, proper}
 
 -- ---- along an axis of n samples with tiles of t
 
@@ -112,32 +114,23 @@ module _ (f : ℕ → ℕ → ℕ) (g : TileThresholdConfig) (w h at : ℕ) (ws 
         let r = g.neighborhood_radius in
         rows_are (low r i) (high r (tiles_x_of g w) i) (low r j) (high r (tiles_y_of g h) j) (omega arith) (omega arith) (omega arith) (omega arith)
 
-    abbrev here : Box
-    here = around g w h i j
-
-    pub some_around : Some here
+    pub some_around : Some (around g w h i j)
     some_around = around_some g w h i j z.tile_width z.tile_height I J
 
-    pub around_proper : Proper (numbers_in f here)
-    around_proper =
-        let m = fold_box_extreme lowest f here some_around in
-        let M = fold_box_extreme highest f here some_around in
-        record {
-          small = small f G.bytes here some_around (omega (arith, z.small_width)) (omega (arith, z.small_height));
-          ordered = subst (λ (v : ℕ). (numbers_in f here).minimum ≤ v) M.is (m.bound M.at M.within);
-        }
-
-  pub small_grid : SmallGrid at (tiles_x_of g w) (tiles_y_of g h) ws
-  small_grid = record {
+  pub proper_grid : ProperGrid at (tiles_x_of g w) (tiles_y_of g h) ws
+  proper_grid = record {
     room = G.room;
     each = λ a b c d A B C D.
-        subst Small (sym (rows_are a b c d A B C D))
-        (small f G.bytes (tiles_box a b c d)
+        let e = rows_are a b c d A B C D in
+        let top = join_maximum _ 256 c d C (λ j p q. join_maximum _ 256 a b A (λ i s t. G.bytes i j (omega arith) (omega arith))) in
+        subst Proper (sym e)
+        (proper (tiles_box a b c d)
         (record {
           across = tiles_some w g.tile_width z.tile_width a b A B;
           down = tiles_some h g.tile_height z.tile_height c d C D;
         })
         (omega (arith, z.small_width))
-        (omega (arith, z.small_height)));
-    down = omega (arith, ceiling_small h g.tile_height z.tile_height, z.small_height);
+        (omega (arith, z.small_height))
+        f
+        (subst (λ (n : TileNumbers). n.maximum < 256) e top));
   }

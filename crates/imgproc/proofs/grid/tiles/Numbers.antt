@@ -1,13 +1,13 @@
--- The five numbers of pixels: of a row while it is scanned, of two neighbouring boxes, and how large they get. Assumes nothing.
-use mathlib.Core.Path.{◌≡◌, refl, sym, ap, ◌∙◌, subst}
+-- The five numbers of pixels: of a line while it is scanned, of two neighbouring boxes, and how large they get. Assumes nothing.
+use mathlib.Core.Path.{◌≡◌, refl, sym, ap, ap₂, ◌∙◌, subst}
 use Prim.Native.Nat.{ℕ, zero, suc, ◌+◌, ◌-◌, ◌*◌, ◌≤◌, ◌<◌, min, max}
 use native.Mathlib.Nat.{le_trans, mul-le-mul, mul-le-mul_right}
 use native.Mathlib.Omega.{arith}
 use Rattle.image.specs.Layout.{side_limit}
 use Rattle.imgproc.specs.declared.grid.tiles.TileNumbers.{TileNumbers}
 use Rattle.imgproc.specs.Fold.{fold_from, fold_over, Box, fold_box}
-use Rattle.imgproc.specs.Extremes.{Some, lowest, highest, fold_box_extreme}
-use Rattle.imgproc.specs.Tiles.{numbers_in, line_numbers, joined, Small}
+use Rattle.imgproc.specs.Extremes.{Some, Inside, lowest, highest, fold_box_extreme}
+use Rattle.imgproc.specs.Tiles.{numbers_in, line_numbers, joined, Proper}
 use Rattle.imgproc.proofs.grid.tiles.Folds.{
   Joining,
   running,
@@ -17,6 +17,7 @@ use Rattle.imgproc.proofs.grid.tiles.Folds.{
   running_small,
   fold_one,
   fold_same,
+  fold_shift,
   box_below,
   box_beside,
   box_same,
@@ -41,52 +42,56 @@ line_count : (a b : ℕ) → a ≤ b → fold_over ◌+◌ (λ i. 1) a b ≡ suc
 unfolding fold_over
 line_count a b t = count_from a (b - a)
 
--- ---- a row while it is scanned
+-- ---- a line while it is scanned
 
--- the four numbers of f left, .., f (x - 1), from nothing
-pub record Scanned (f : ℕ → ℕ) (left x m M s q : ℕ) : Type 0 where
-  pub minimum : m ≡ running min 255 f left (x - left)
-  pub maximum : M ≡ running max 0 f left (x - left)
-  pub sum : s ≡ running ◌+◌ 0 f left (x - left)
-  pub sum_sq : q ≡ running ◌+◌ 0 (λ k. f k * f k) left (x - left)
+-- the four numbers of f 0, .., f (n - 1), from nothing
+pub record Scanned (f : ℕ → ℕ) (n m M s q : ℕ) : Type 0 where
+  pub minimum : m ≡ running min 255 f n
+  pub maximum : M ≡ running max 0 f n
+  pub sum : s ≡ running ◌+◌ 0 f n
+  pub sum_sq : q ≡ running ◌+◌ 0 (λ k. f k * f k) n
 
-pub scanned_none : (f : ℕ → ℕ) (left : ℕ) → Scanned f left left 255 0 0 0
-scanned_none f left = record {
-  minimum = running_none min 255 f left;
-  maximum = running_none max 0 f left;
-  sum = running_none ◌+◌ 0 f left;
-  sum_sq = running_none ◌+◌ 0 (λ k. f k * f k) left;
+pub scanned_none : (f : ℕ → ℕ) → Scanned f 0 255 0 0 0
+scanned_none f = record {
+  minimum = running_none min 255 f;
+  maximum = running_none max 0 f;
+  sum = running_none ◌+◌ 0 f;
+  sum_sq = running_none ◌+◌ 0 (λ k. f k * f k);
 }
 
-module _ {f : ℕ → ℕ} {left x m M s q : ℕ} (c : Scanned f left x m M s q) (t : left ≤ x) where
-  pub scanned_more : {m' M' : ℕ} → m' ≡ min m (f x) → M' ≡ max M (f x) → Scanned f left (x + 1) m' M' (s + f x) (q + f x * f x)
-  scanned_more e E = record {
-    minimum = e ∙ ap (λ (k : ℕ). min k (f x)) c.minimum ∙ running_more min 255 f left x t;
-    maximum = E ∙ ap (λ (k : ℕ). max k (f x)) c.maximum ∙ running_more max 0 f left x t;
-    sum = ap (λ (k : ℕ). k + f x) c.sum ∙ running_more ◌+◌ 0 f left x t;
-    sum_sq = ap (λ (k : ℕ). k + f x * f x) c.sum_sq ∙ running_more ◌+◌ 0 (λ k. f k * f k) left x t;
+module _ {f : ℕ → ℕ} {n m M s q : ℕ} (c : Scanned f n m M s q) where
+  pub scanned_more : {m' M' v : ℕ} → m' ≡ min m (f n) → M' ≡ max M (f n) → v ≡ f n → Scanned f (n + 1) m' M' (s + v) (q + v * v)
+  scanned_more e E V = record {
+    minimum = e ∙ ap (λ (k : ℕ). min k (f n)) c.minimum ∙ running_more min 255 f n;
+    maximum = E ∙ ap (λ (k : ℕ). max k (f n)) c.maximum ∙ running_more max 0 f n;
+    sum = ap₂ ◌+◌ c.sum V ∙ running_more ◌+◌ 0 f n;
+    sum_sq = ap₂ (λ (k u : ℕ). k + u * u) c.sum_sq V ∙ running_more ◌+◌ 0 (λ k. f k * f k) n;
   }
 
   module _ (bytes : (k : ℕ) → f k < 256) where
-    square : (k : ℕ) → f k * f k ≤ 65025
-    square k = let a : f k ≤ 255 = omega (arith, bytes k) in mul-le-mul a a
+    -- the sums so far, and the next square
+    pub sums_small : {v : ℕ} → v ≡ f n → (s ≤ n * 255) × (q ≤ n * 65025) × (v < 256) × (v * v ≤ 65025)
+    sums_small V = (
+      omega (arith, c.sum, running_small 255 f (λ k. omega (arith, bytes k)) n),
+      omega (arith, c.sum_sq, running_small 65025 (λ k. f k * f k) square n),
+      omega (arith, bytes n),
+      rw V (square n),
+    )
+      where
+        square : (k : ℕ) → f k * f k ≤ 65025
+        square k = let a : f k ≤ 255 = omega (arith, bytes k) in mul-le-mul a a
 
-    pub sum_small : s ≤ (x - left) * 255
-    sum_small = omega (arith, c.sum, running_small 255 f left (λ k. omega (arith, bytes k)) (x - left))
-
-    pub sum_sq_small : q ≤ (x - left) * 65025
-    sum_sq_small = omega (arith, c.sum_sq, running_small 65025 (λ k. f k * f k) left square (x - left))
-
-    -- at the end of the row they are the row's
-    pub scanned_all : (right : ℕ) → right ≤ x → x ≤ right → left < right
-        → record { minimum = m; maximum = M; sum = s; sum_sq = q; count = right - left } ≡ line_numbers f left (right - 1)
-    scanned_all right p r l =
+    -- at the end of the line they are the line's
+    pub scanned_all : {s' q' end : ℕ} → s' ≡ s → q' ≡ q → end ≡ n → 0 < end
+        → record { minimum = m; maximum = M; sum = s'; sum_sq = q'; count = end } ≡ line_numbers f 0 (end - 1)
+    scanned_all {end = k} S Q e t =
+        let n_is = sym e in
         same _ _
-        (c.minimum ∙ running_all min 255 f left (omega (arith, bytes left)) x right p r l)
-        (c.maximum ∙ running_all max 0 f left (omega arith) x right p r l)
-        (c.sum ∙ running_all ◌+◌ 0 f left (omega arith) x right p r l)
-        (c.sum_sq ∙ running_all ◌+◌ 0 (λ k. f k * f k) left (omega arith) x right p r l)
-        (omega (arith, line_count left (right - 1) (omega arith)))
+        (c.minimum ∙ ap (running min 255 f) n_is ∙ running_all min 255 f (omega (arith, bytes 0)) k t)
+        (c.maximum ∙ ap (running max 0 f) n_is ∙ running_all max 0 f (omega arith) k t)
+        (S ∙ c.sum ∙ ap (running ◌+◌ 0 f) n_is ∙ running_all ◌+◌ 0 f (omega arith) k t)
+        (Q ∙ c.sum_sq ∙ ap (running ◌+◌ 0 (λ i. f i * f i)) n_is ∙ running_all ◌+◌ 0 (λ i. f i * f i) (omega arith) k t)
+        (omega (arith, line_count 0 (k - 1) (omega arith)))
 
 -- ---- neighbouring boxes
 
@@ -99,15 +104,17 @@ most_joins = record { assoc = λ a b c. omega arith; comm = λ a b. omega arith 
 sums_join : Joining ◌+◌
 sums_join = record { assoc = λ a b c. omega arith; comm = λ a b. omega arith }
 
--- lines that agree
-pub same_line : (f g : ℕ → ℕ) (l r : ℕ) → l ≤ r → ((i : ℕ) → i ≤ r → f i ≡ g i) → line_numbers f l r ≡ line_numbers g l r
+-- a line of samples that a longer line has from l to r
+pub same_line : (f g : ℕ → ℕ) (l r : ℕ) → l ≤ r → ((i : ℕ) → i ≤ r - l → f i ≡ g (l + i)) → line_numbers f 0 (r - l) ≡ line_numbers g l r
 same_line f g l r t e =
+    let h : ℕ → ℕ = λ i. g (l + i) in
     same _ _
-    (fold_same min f g l r t (λ i p q. e i q))
-    (fold_same max f g l r t (λ i p q. e i q))
-    (fold_same ◌+◌ f g l r t (λ i p q. e i q))
-    (fold_same ◌+◌ (λ i. f i * f i) (λ i. g i * g i) l r t (λ i p q. ap (λ (k : ℕ). k * k) (e i q)))
-    refl
+    (fold_same min f h 0 (r - l) (omega arith) (λ i p q. e i q) ∙ fold_shift min g l r t)
+    (fold_same max f h 0 (r - l) (omega arith) (λ i p q. e i q) ∙ fold_shift max g l r t)
+    (fold_same ◌+◌ f h 0 (r - l) (omega arith) (λ i p q. e i q) ∙ fold_shift ◌+◌ g l r t)
+    (fold_same ◌+◌ (λ i. f i * f i) (λ i. h i * h i) 0 (r - l) (omega arith) (λ i p q. ap (λ (k : ℕ). k * k) (e i q))
+    ∙ fold_shift ◌+◌ (λ i. g i * g i) l r t)
+    (fold_shift ◌+◌ (λ i. 1) l r t)
 
 -- a box of one row
 pub one_row : (f : ℕ → ℕ → ℕ) (l r y : ℕ) → line_numbers (λ x. f x y) l r ≡ numbers_in f (record { left = l; right = r; top = y; bottom = y })
@@ -154,29 +161,43 @@ same_in f g b s e =
 
 -- ---- how large
 
-from_small : (K : ℕ) (f : ℕ → ℕ) → ((i : ℕ) → f i ≤ K) → (a n : ℕ) → fold_from ◌+◌ f a n ≤ suc n * K
+from_small : (K : ℕ) (f : ℕ → ℕ) (a n : ℕ) → ((i : ℕ) → a ≤ i → i ≤ a + n → f i ≤ K) → fold_from ◌+◌ f a n ≤ suc n * K
 unfolding fold_from
-from_small K f s a zero = omega (arith, s a)
-from_small K f s a (suc n) = omega (arith, from_small K f s a n, s (a + suc n))
+from_small K f a zero s = omega (arith, s a (omega arith) (omega arith))
+from_small K f a (suc n) s =
+    omega (arith, from_small K f a n (λ i p q. s i p (omega arith)), s (a + suc n) (omega arith) (omega arith))
 
-box_small : (K : ℕ) (f : ℕ → ℕ → ℕ) → ((x y : ℕ) → f x y ≤ K) → (b : Box) → b.right < b.left + side_limit → b.bottom < b.top + side_limit
-    → fold_box ◌+◌ f b ≤ side_limit * (side_limit * K)
-unfolding fold_box fold_over
-box_small K f s b p q =
-    let row : (y : ℕ) → fold_from ◌+◌ (λ x. f x y) b.left (b.right - b.left) ≤ side_limit * K = λ y.
-    le_trans (from_small K (λ x. f x y) (λ x. s x y) b.left (b.right - b.left)) (mul-le-mul_right K (omega arith)) in
-    le_trans (from_small (side_limit * K) _ row b.top (b.bottom - b.top)) (mul-le-mul_right (side_limit * K) (omega arith))
+-- a box of at most as many pixels as a picture has
+module _ (b : Box) (s : Some b) (p : b.right < b.left + side_limit) (q : b.bottom < b.top + side_limit) where
+  box_small : (K : ℕ) (f : ℕ → ℕ → ℕ) → ((x y : ℕ) → Inside b (x, y) → f x y ≤ K) → fold_box ◌+◌ f b ≤ side_limit * (side_limit * K)
+  unfolding fold_box fold_over
+  box_small K f k =
+      let row : (y : ℕ) → b.top ≤ y → y ≤ b.top + (b.bottom - b.top) → fold_from ◌+◌ (λ x. f x y) b.left (b.right - b.left) ≤ side_limit * K = λ y t u.
+      le_trans
+      (from_small K (λ x. f x y) b.left (b.right - b.left) (λ x l r. k x y ((l, omega (arith, s.across)), (t, omega (arith, s.down)))))
+      (mul-le-mul_right K (omega arith)) in
+      le_trans (from_small (side_limit * K) _ b.top (b.bottom - b.top) row) (mul-le-mul_right (side_limit * K) (omega arith))
 
--- the numbers of as many bytes as a picture has are small
-pub small : (f : ℕ → ℕ → ℕ) → ((x y : ℕ) → f x y < 256) → (b : Box) → Some b → b.right < b.left + side_limit → b.bottom < b.top + side_limit
-    → Small (numbers_in f b)
-small f bytes b s p q =
-    let m = fold_box_extreme lowest f b s in
-    let M = fold_box_extreme highest f b s in
-    record {
-      minimum = subst (λ (v : ℕ). v < 256) m.is (bytes m.at.0 m.at.1);
-      maximum = subst (λ (v : ℕ). v < 256) M.is (bytes M.at.0 M.at.1);
-      sum = box_small 255 f (λ x y. omega (arith, bytes x y)) b p q;
-      sum_sq = box_small 65025 (λ x y. f x y * f x y) (λ x y. let a : f x y ≤ 255 = omega (arith, bytes x y) in mul-le-mul a a) b p q;
-      count = box_small 1 (λ x y. 1) (λ x y. omega arith) b p q;
-    }
+  -- where the maximum is a byte, each pixel is one, and the sums are small
+  pub proper : (f : ℕ → ℕ → ℕ) → (numbers_in f b).maximum < 256 → Proper (numbers_in f b)
+  proper f top =
+      let m = fold_box_extreme lowest f b s in
+      let M = fold_box_extreme highest f b s in
+      let byte : (x y : ℕ) → Inside b (x, y) → f x y ≤ 255 = λ x y h. omega (arith, M.bound (x, y) h, top) in
+      let ordered : (numbers_in f b).minimum ≤ (numbers_in f b).maximum = subst (λ (v : ℕ). (numbers_in f b).minimum ≤ v) M.is (m.bound M.at M.within) in
+      record {
+        small = record {
+          minimum = omega (arith, ordered, top);
+          maximum = top;
+          sum = box_small 255 f byte;
+          sum_sq = box_small 65025 (λ x y. f x y * f x y) (λ x y h. mul-le-mul (byte x y h) (byte x y h));
+          count = box_small 1 (λ x y. 1) (λ x y h. omega arith);
+        };
+        ordered = ordered;
+      }
+
+-- so the sums of two such boxes do not wrap
+pub sums_fit : {a b : TileNumbers} → Proper a → Proper b
+    → (a.sum + b.sum < 18446744073709551616) × (a.sum_sq + b.sum_sq < 18446744073709551616) × (a.count + b.count < 18446744073709551616)
+sums_fit u v =
+    (omega (arith, u.small.sum, v.small.sum), omega (arith, u.small.sum_sq, v.small.sum_sq), omega (arith, u.small.count, v.small.count))

@@ -8,4 +8,4 @@ flatten-tally-requires c =
 
 pub returns : goal.returns
 returns c =
-    divide_works c.requires c.start.ensures c.flatten-tally.ensures c.unpack-painted.ensures
+    divide_works c.requires c.start.ensures c.flatten-tally.ensures c.unpack.ensures

@@ -6,7 +6,7 @@ use Rattle.imgproc.proofs.illumination.flatten.Goals as goal
 
 pub close_rect_into-raised-requires : goal.close_rect_into-raised-requires
 close_rect_into-raised-requires c =
-    close_ready c.requires c.pack-packed.ensures
+    close_ready c.args.source.kept c.requires c.pack.ensures
 
 pub divide_plane-requires : goal.divide_plane-requires
 divide_plane-requires c =
@@ -19,4 +19,4 @@ divide_plane-requires c =
 
 pub returns : goal.returns
 returns c =
-    flattened c.requires c.pack-packed.ensures c.close_rect_into-raised.ensures c.divide_plane.ensures
+    flattened c.args.source.kept c.requires c.pack.ensures c.close_rect_into-raised.ensures c.divide_plane.ensures

@@ -1,6 +1,6 @@
 -- Extremes of stretches of a line, and how the forward and backward extremes of blocks join to the extreme of a reach: one law over the order. Assumes nothing.
 use mathlib.Core.Path.{◌≡◌, refl, sym, ap, ◌∙◌, subst}
-use mathlib.Core.Bool.{Bool, true, false, cond, and-false}
+use mathlib.Core.Bool.{Bool, true, false, cond, not, and-false}
 use mathlib.Core.Logic.{◌⊎◌, inl, inr, ⊎_elim}
 use Prim.Native.Nat.{ℕ, zero, suc, ◌+◌, ◌-◌, ◌*◌, ◌/◌, ◌%◌, ◌≤◌, ◌<◌, min}
 use native.Mathlib.Nat.{zero-mod}
@@ -12,6 +12,10 @@ use Rattle.imgproc.specs.Reach.{low, high, radius, one_block, reach_from, reach_
 use Rattle.imgproc.specs.Walks.{cases, quotient, place}
 use Rattle.imgproc.specs.Compared.{Before, extreme}
 use Rattle.imgproc.specs.Sweeps.{Forwards, Backwards, Reached, Joins}
+
+-- a const parameter that is a flag stands as a number in a proof
+abbrev pub flag : ℕ → Bool
+flag n = not (eqb n 0)
 
 -- each least is an order
 pub order : (least : Bool) → Order (Before least) (extreme least)

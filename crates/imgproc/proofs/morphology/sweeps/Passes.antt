@@ -53,65 +53,64 @@ plane_kept {w} {h} {to} {d} {a} from x y j p o X Y e =
 module _ {R : ℕ → ℕ → Type 0} {op : ℕ → ℕ → ℕ} (o : Order R op) (k : ℕ) (pos : 0 < k)
     (from to w h : ℕ) (apart : Apart from (w * h) to (w * h)) (d : List ℕ) (tally : Tally) where
   -- ---- forward
-  abbrev pub ForwardDown : ℕ → ℕ → List ℕ → Tally → Type 0
-  ForwardDown y at a c = Downward (λ (x : ℕ). Forwards R k (lane d from w x)) (forward_at k) to w h y at d a tally c
+  abbrev pub ForwardDown : ℕ → List ℕ → Tally → Type 0
+  ForwardDown y a c = Downward (λ (x : ℕ). Forwards R k (lane d from w x)) (forward_at k) to w h y d a tally c
 
-  pub forward_copy : {y at : ℕ} {c : Tally} {a a' : List ℕ} → ForwardDown y at a c → y < h → y % k ≡ 0
-      → Rowed (to + at) w (λ (x : ℕ). get_or a (from + at + x) 0) a a' → ForwardDown (y + 1) (at + w) a' c
-  forward_copy {y} {at} {a = a} s l z r =
-      down_more (λ (x : ℕ). get_or a (from + at + x) 0) s l r
-      (λ x m. rw (plane_kept from x y (from + at + x) apart s.lines.rest m l (omega (arith, s.here))) (forward_first o k pos (lane d from w x) y z))
+  pub forward_copy : {y : ℕ} {c : Tally} {a a' : List ℕ} → ForwardDown y a c → y < h → y % k ≡ 0
+      → Rowed (to + y * w) w (λ (x : ℕ). get_or a (from + y * w + x) 0) a a' → ForwardDown (y + 1) a' c
+  forward_copy {y} {a = a} s l z r =
+      down_more (λ (x : ℕ). get_or a (from + y * w + x) 0) s l r
+      (λ x m. rw (plane_kept from x y (from + y * w + x) apart s.lines.rest m l (omega arith)) (forward_first o k pos (lane d from w x) y z))
       (raised_none (simp (eq-eqb _ _ z) (omega arith)))
 
-  pub forward_meet : {y at : ℕ} {c c' : Tally} {a a' : List ℕ} → ForwardDown y at a c → y < h → (y % k ≡ 0 → ⊥)
-      → Rowed (to + at) w (λ (x : ℕ). op (get_or a (to + (at - w) + x) 0) (get_or a (from + at + x) 0)) a a' → Raised c w c' → ForwardDown (y + 1) (at + w) a' c'
-  forward_meet {y} {at} {a = a} s l nz r e =
+  pub forward_meet : {y : ℕ} {c c' : Tally} {a a' : List ℕ} → ForwardDown y a c → y < h → (y % k ≡ 0 → ⊥)
+      → Rowed (to + y * w) w (λ (x : ℕ). op (get_or a (to + (y * w - w) + x) 0) (get_or a (from + y * w + x) 0)) a a' → Raised c w c' → ForwardDown (y + 1) a' c'
+  forward_meet {y} {a = a} s l nz r e =
       let p : 0 < y = after k y nz in
       let up = line_before w y p in
-      down_more (λ (x : ℕ). op (get_or a (to + (at - w) + x) 0) (get_or a (from + at + x) 0)) s l r
+      down_more (λ (x : ℕ). op (get_or a (to + (y * w - w) + x) 0) (get_or a (from + y * w + x) 0)) s l r
       (λ x m.
-      let here = plane_kept from x y (from + at + x) apart s.lines.rest m l (omega (arith, s.here)) in
-      let above : get_or a (to + (at - w) + x) 0 ≡ lane a to w x (y - 1) = ap (λ (n : ℕ). get_or a n 0) (omega (arith, s.here)) in
+      let here = plane_kept from x y (from + y * w + x) apart s.lines.rest m l (omega arith) in
+      let above : get_or a (to + (y * w - w) + x) 0 ≡ lane a to w x (y - 1) = ap (λ (n : ℕ). get_or a n 0) (omega arith) in
       rw (above, here) (forward_next o k pos (lane d from w x) y nz (s.lines.each x (y - 1) m (omega arith))))
       (raised_as e (simp (ne_eqb _ _ nz) (omega arith)))
 
   -- ---- backward: the turn at y writes line y - 1
-  abbrev pub BackwardUp : ℕ → ℕ → List ℕ → Tally → Type 0
-  BackwardUp y at a c = Upward (λ (x : ℕ). Backwards R k h (lane d from w x)) (backward_at k h) to w h y at d a tally c
+  abbrev pub BackwardUp : ℕ → List ℕ → Tally → Type 0
+  BackwardUp y a c = Upward (λ (x : ℕ). Backwards R k h (lane d from w x)) (backward_at k h) to w h y d a tally c
 
-  pub backward_copy : {y at : ℕ} {c : Tally} {a a' : List ℕ} → BackwardUp y at a c → 0 < y → ((y - 1) % k ≡ k - 1) ⊎ (y - 1 ≡ h - 1)
-      → Rowed (to + (at - w)) w (λ (x : ℕ). get_or a (from + (at - w) + x) 0) a a' → BackwardUp (y - 1) (at - w) a' c
-  backward_copy {y} {at} {a = a} s l z r =
-      let up = line_before w y l in
-      up_more (λ (x : ℕ). get_or a (from + (at - w) + x) 0) s l r
+  pub backward_copy : {y : ℕ} {c : Tally} {a a' : List ℕ} → BackwardUp y a c → 0 < y → y ≤ h → ((y - 1) % k ≡ k - 1) ⊎ (y - 1 ≡ h - 1)
+      → Rowed (to + (y - 1) * w) w (λ (x : ℕ). get_or a (from + (y - 1) * w + x) 0) a a' → BackwardUp (y - 1) a' c
+  backward_copy {y} {a = a} s l u z r =
+      up_more (λ (x : ℕ). get_or a (from + (y - 1) * w + x) 0) s l u r
       (λ x m.
-      rw (plane_kept from x (y - 1) (from + (at - w) + x) apart s.lines.rest m (omega (arith, s.inside)) (omega (arith, s.here)))
-      (backward_first o k pos (lane d from w x) h (y - 1) (omega (arith, s.inside)) z))
+      rw (plane_kept from x (y - 1) (from + (y - 1) * w + x) apart s.lines.rest m (omega arith) (omega arith))
+      (backward_first o k pos (lane d from w x) h (y - 1) (omega arith) z))
       (raised_none (rw (backward_none k h (y - 1) z) (omega arith)))
 
-  pub backward_meet : {y at : ℕ} {c c' : Tally} {a a' : List ℕ} → BackwardUp y at a c → 0 < y → ((y - 1) % k ≡ k - 1 → ⊥) → (y - 1 ≡ h - 1 → ⊥)
-      → Rowed (to + (at - w)) w (λ (x : ℕ). op (get_or a (to + (at - w + w) + x) 0) (get_or a (from + (at - w) + x) 0)) a a'
-      → Raised c w c' → BackwardUp (y - 1) (at - w) a' c'
-  backward_meet {y} {at} {a = a} s l nk nh r e =
-      let up = line_before w y l in
+  pub backward_meet : {y : ℕ} {c c' : Tally} {a a' : List ℕ} → BackwardUp y a c → 0 < y → y ≤ h → ((y - 1) % k ≡ k - 1 → ⊥) → (y - 1 ≡ h - 1 → ⊥)
+      → Rowed (to + (y - 1) * w) w (λ (x : ℕ). op (get_or a (to + ((y - 1) * w + w) + x) 0) (get_or a (from + (y - 1) * w + x) 0)) a a'
+      → Raised c w c' → BackwardUp (y - 1) a' c'
+  backward_meet {y} {a = a} s l u nk nh r e =
       let same : (y - 1 + 1) * w ≡ y * w = ap (λ (n : ℕ). n * w) (omega arith) in
-      up_more (λ (x : ℕ). op (get_or a (to + (at - w + w) + x) 0) (get_or a (from + (at - w) + x) 0)) s l r
+      let up = line_before w y l in
+      up_more (λ (x : ℕ). op (get_or a (to + ((y - 1) * w + w) + x) 0) (get_or a (from + (y - 1) * w + x) 0)) s l u r
       (λ x m.
-      let here = plane_kept from x (y - 1) (from + (at - w) + x) apart s.lines.rest m (omega (arith, s.inside)) (omega (arith, s.here)) in
-      let next : get_or a (to + (at - w + w) + x) 0 ≡ lane a to w x (y - 1 + 1) = ap (λ (n : ℕ). get_or a n 0) (omega (arith, s.here)) in
+      let here = plane_kept from x (y - 1) (from + (y - 1) * w + x) apart s.lines.rest m (omega arith) (omega arith) in
+      let next : get_or a (to + ((y - 1) * w + w) + x) 0 ≡ lane a to w x (y - 1 + 1) = ap (λ (n : ℕ). get_or a n 0) (omega arith) in
       rw (next, here)
-      (backward_next o k pos (lane d from w x) h (y - 1) (omega (arith, s.inside)) nk nh (s.lines.each x (y - 1 + 1) m (omega (arith, s.inside, nh)))))
+      (backward_next o k pos (lane d from w x) h (y - 1) (omega arith) nk nh (s.lines.each x (y - 1 + 1) m (omega (arith, nh)))))
       (raised_as e (simp (ne_eqb _ _ nk, ne_eqb _ _ nh) (omega arith)))
 
 -- ---- joining
 module _ (op : ℕ → ℕ → ℕ) (k suffix prefix to w h : ℕ)
     (left : Apart suffix (w * h) to (w * h)) (right : Apart prefix (w * h) to (w * h)) (d : List ℕ) (tally : Tally) where
-  abbrev pub JoinDown : ℕ → ℕ → List ℕ → Tally → Type 0
-  JoinDown y at a c = Downward (λ (x : ℕ). Joins op k h (lane d suffix w x) (lane d prefix w x)) join_at to w h y at d a tally c
+  abbrev pub JoinDown : ℕ → List ℕ → Tally → Type 0
+  JoinDown y a c = Downward (λ (x : ℕ). Joins op k h (lane d suffix w x) (lane d prefix w x)) join_at to w h y d a tally c
 
-  pub join_line : {y at lo hi : ℕ} {c c' : Tally} {a a' : List ℕ} → JoinDown y at a c → y < h → lo ≡ low (radius k) y → hi ≡ high (radius k) h y
-      → Rowed (to + at) w (λ (x : ℕ). op (get_or a (suffix + lo * w + x) 0) (get_or a (prefix + hi * w + x) 0)) a a'
-      → Raised c w c' → JoinDown (y + 1) (at + w) a' c'
+  pub join_line : {y lo hi : ℕ} {c c' : Tally} {a a' : List ℕ} → JoinDown y a c → y < h → lo ≡ low (radius k) y → hi ≡ high (radius k) h y
+      → Rowed (to + y * w) w (λ (x : ℕ). op (get_or a (suffix + lo * w + x) 0) (get_or a (prefix + hi * w + x) 0)) a a'
+      → Raised c w c' → JoinDown (y + 1) a' c'
   join_line {y} {lo = lo} {hi = hi} {a = a} s l p q r e =
       down_more (λ (x : ℕ). op (get_or a (suffix + lo * w + x) 0) (get_or a (prefix + hi * w + x) 0)) s l r
       (λ x m.

@@ -11,7 +11,11 @@ use Rattle.imgproc.specs.Tables.{entries_limit}
 use Rattle.imgproc.proofs.grid.tiles.Counts.{total, few}
 use Rattle.imgproc.proofs.reading.Ways.{bytes_short, u64s_short, room_enough}
 use Rattle.imgproc.proofs.reading.check_room.Goals as goal
-use Rattle.imgproc.proofs.reading.check_room.Goals.{After-tiles_along-2}
+use Rattle.imgproc.proofs.reading.check_room.Goals.{
+  After-tiles_along-2,
+  then-bytes-width-via-then-bytes-width,
+  then-bytes-width-via-else-bytes-width+then-u64s-width,
+}
 
 count : (t : After-tiles_along-2)
     → let a = t.args in
@@ -38,16 +42,19 @@ pub overflow_add-width : goal.overflow_add-width
 overflow_add-width c = omega (arith, tiles (goal.at.overflow_add-width c).After-tiles_along-2, area (goal.at.overflow_add-width c).After-tiles_along-2)
 
 pub returns-then-bytes-width : goal.returns-then-bytes-width
-returns-then-bytes-width c = bytes_short c.args.geometry c.args.config _ _ _ (count (goal.at.returns-then-bytes-width c).After-tiles_along-2) c.if-bytes-width.true
+returns-then-bytes-width c =
+    let n = count (goal.at.returns-then-bytes-width c).After-tiles_along-2 in
+    elim c.then-bytes-width.branch [
+      | then-bytes-width-via-then-bytes-width w ↦ bytes_short c.args.geometry c.args.config _ _ _ n w.if-bytes-width.true
+      | then-bytes-width-via-else-bytes-width+then-u64s-width w ↦
+          u64s_short c.args.geometry c.args.config _ _ _ n w.if-bytes-width.false w.if-u64s-width.true
+    ]
 
-pub overflow_mul-count-3 : goal.overflow_mul-count-3
-overflow_mul-count-3 c = omega (arith, tiles (goal.at.overflow_mul-count-3 c).After-tiles_along-2)
+pub overflow_mul-count-else-bytes-width : goal.overflow_mul-count-else-bytes-width
+overflow_mul-count-else-bytes-width c = omega (arith, tiles (goal.at.overflow_mul-count-else-bytes-width c).After-tiles_along-2)
 
-pub overflow_add-width-3 : goal.overflow_add-width-3
-overflow_add-width-3 c = omega (arith, tiles (goal.at.overflow_add-width-3 c).After-tiles_along-2, entries (goal.at.overflow_add-width-3 c).After-tiles_along-2)
-
-pub returns-then-u64s-width : goal.returns-then-u64s-width
-returns-then-u64s-width c = u64s_short c.args.geometry c.args.config _ _ _ (count (goal.at.returns-then-u64s-width c).After-tiles_along-2) c.if-bytes-width.false c.if-u64s-width.true
+pub overflow_add-width-else-bytes-width-2 : goal.overflow_add-width-else-bytes-width-2
+overflow_add-width-else-bytes-width-2 c = omega (arith, tiles (goal.at.overflow_add-width-else-bytes-width-2 c).After-tiles_along-2, entries (goal.at.overflow_add-width-else-bytes-width-2 c).After-tiles_along-2)
 
 pub returns : goal.returns
 returns c = room_enough c.args.geometry c.args.config _ _ _ (count (goal.at.returns c).After-tiles_along-2) c.if-bytes-width.false c.if-u64s-width.false

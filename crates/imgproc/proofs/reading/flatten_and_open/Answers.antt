@@ -4,4 +4,4 @@ use Rattle.imgproc.proofs.reading.flatten_and_open.Goals as goal
 
 pub open_rect_into-requires : goal.open_rect_into-requires
 open_rect_into-requires c =
-    open_ready c.requires c.flatten-raised.ensures
+    open_ready c.args.source.kept.wide c.requires c.flatten-raised.ensures

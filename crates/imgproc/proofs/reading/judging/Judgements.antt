@@ -10,7 +10,7 @@ use lib.ListN.{length, get_or, set}
 use lib.Seq.{get_or-set_same, get_or-set_other}
 use borrow.Author.Count.{below_more}
 use borrow.Author.Tests.{le-leb, lt-leb}
-use Rattle.image.specs.Layout.{area_limit}
+use Rattle.image.specs.Layout.{Kept, area_limit}
 use Rattle.image.specs.declared.Geometry.{Geometry}
 use Rattle.image.specs.Plane.{pixel, picture}
 use Rattle.image.specs.PlaneLaws.{length-tabulate, get_d_tabulate, in_plane, pixel_plane}
@@ -25,7 +25,7 @@ use Rattle.imgproc.specs.Grid.{tiles_x_of, tiles_y_of, skip_of, skips}
 use Rattle.imgproc.specs.Sauvola.{threshold_at_pixel, at_or_below}
 use Rattle.imgproc.specs.Walks.{walk_more, walk_le}
 use Rattle.imgproc.specs.Reading.{is_dark, is_light, is_skipped, byte_of, judged_over, pixels}
-use Rattle.imgproc.specs.ReadingSteps.{JudgeReady, Room, PixelsJudged, marked_over}
+use Rattle.imgproc.specs.ReadingSteps.{JudgeReady, Room, Counted, PixelsJudged, marked_over}
 use Rattle.imgproc.specs.ReadingLaws.{pixels_none, pixels_row, pixels_most}
 use Rattle.image.specs.FillLaws.{row_in_plane}
 
@@ -41,8 +41,8 @@ bit_none false e = refl
 pub tile_in : (n t i : ℕ) → 0 < t → i < n → i / t < ceiling n t
 tile_in n t i T I = (le-div_iff_mul-le {k = t} {x = suc (i / t)} {y = n + t - 1} T).1 (omega (arith, suc-mul (i / t) t, div-mul-le_self i t))
 
-module _ {o : List ℕ} {g : Geometry} {sk ws : List ℕ} {at : ℕ} {s : ReadingConfig} (ready : JudgeReady o g sk ws at s)
-    {x y : ℕ} (X : x < g.width) (Y : y < g.height) where
+module _ {o : List ℕ} {g : Geometry} {sk ws : List ℕ} {at : ℕ} {s : ReadingConfig}
+    (kept : Kept (length o) g) (ready : JudgeReady o g sk ws at s) {x y : ℕ} (X : x < g.width) (Y : y < g.height) where
   -- the tile of the pixel, and whether the skip of a tile holds
   abbrev tile : ℕ
   tile = y / s.grid.tile_height * tiles_x_of s.grid g.width + x / s.grid.tile_width
@@ -84,15 +84,15 @@ module _ {o : List ℕ} {g : Geometry} {sk ws : List ℕ} {at : ℕ} {s : Readin
   unfolding judged_over
   is_skipped_lem n = rw (bit_one (skip (x / s.grid.tile_width) (y / s.grid.tile_height)) (λ e. n (mark ∙ e)))
 
-  module _ (kept : get_or sk tile 0 ≡ 0) {t : ℕ} (is : t ≡ threshold_at_pixel s.sauvola g.width g.height (picture o g) x y) where
+  module _ (unmarked : get_or sk tile 0 ≡ 0) {t : ℕ} (is : t ≡ threshold_at_pixel s.sauvola g.width g.height (picture o g) x y) where
     threshold_is : t ≡ threshold_at_pixel s.sauvola g.width g.height o x y
     threshold_is =
         is
         ∙ ap (λ (p : List ℕ). threshold_at_pixel s.sauvola g.width g.height p x y)
-        (picture_again o g ready.tables.layout.wide ready.tight ready.whole)
+        (picture_again o g kept.wide ready.tight ready.whole)
 
     goes_on : skip (x / s.grid.tile_width) (y / s.grid.tile_height) ≡ false
-    goes_on = bit_none (skip (x / s.grid.tile_width) (y / s.grid.tile_height)) (sym mark ∙ kept)
+    goes_on = bit_none (skip (x / s.grid.tile_width) (y / s.grid.tile_height)) (sym mark ∙ unmarked)
 
     pub is_dark_lem : get_or o (y * g.width + x) 0 ≤ t → Dark ≡ judged_over s g.width g.height o x y
     unfolding judged_over at_or_below
@@ -113,22 +113,21 @@ module _ {before : Judged} {s : ReadingConfig} {g : Geometry} {o : List ℕ} {y 
   unfolding walk
   none_judged = record { each = λ x l. absurd (omega arith); dark = omega arith; light = omega arith; skipped = omega arith }
 
-  pub next_judged : {c d : Judged} {out : List ℕ} {n : ℕ} (j : Judgement)
+  pub next_judged : {c d : Judged} {out : List ℕ} {n v : ℕ} (j : Judgement)
       → PixelsJudged before s g o y n c out
       → n < length out
       → j ≡ judged_over s g.width g.height o n y
-      → d.dark ≡ c.dark + bit (is_dark j)
-      → d.light ≡ c.light + bit (is_light j)
-      → d.skipped ≡ c.skipped + bit (is_skipped j)
-      → PixelsJudged before s g o y (n + 1) d (set out n (byte_of s.sauvola j))
-  next_judged {c} {d} {out} {n} j p t is a b e =
+      → Counted c j d
+      → v ≡ byte_of s.sauvola j
+      → PixelsJudged before s g o y (n + 1) d (set out n v)
+  next_judged {c} {d} {out} {n} {v} j p t is k bytes =
       let at : ℕ → Judgement = λ x. judged_over s g.width g.height o x y in
       record {
         each =
-            below_more _ n (λ x l. get_or-set_other out n x _ 0 (ne_of_lt l) ∙ p.each x l) (get_or-set_same out n _ 0 t ∙ ap (byte_of s.sauvola) is);
-        dark = raised (λ x. is_dark (at x)) n before.dark p.dark (a ∙ ap (λ (k : Judgement). c.dark + bit (is_dark k)) is);
-        light = raised (λ x. is_light (at x)) n before.light p.light (b ∙ ap (λ (k : Judgement). c.light + bit (is_light k)) is);
-        skipped = raised (λ x. is_skipped (at x)) n before.skipped p.skipped (e ∙ ap (λ (k : Judgement). c.skipped + bit (is_skipped k)) is);
+            below_more _ n (λ x l. get_or-set_other out n x _ 0 (ne_of_lt l) ∙ p.each x l) (get_or-set_same out n _ 0 t ∙ bytes ∙ ap (byte_of s.sauvola) is);
+        dark = raised (λ x. is_dark (at x)) n before.dark p.dark (k.dark ∙ ap (λ (k : Judgement). c.dark + bit (is_dark k)) is);
+        light = raised (λ x. is_light (at x)) n before.light p.light (k.light ∙ ap (λ (k : Judgement). c.light + bit (is_light k)) is);
+        skipped = raised (λ x. is_skipped (at x)) n before.skipped p.skipped (k.skipped ∙ ap (λ (k : Judgement). c.skipped + bit (is_skipped k)) is);
       }
 
   -- a count is at most what it was and the pixels judged, so there is room for one more

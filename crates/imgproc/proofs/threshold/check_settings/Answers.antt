@@ -2,34 +2,34 @@
 use Rattle.imgproc.specs.Refusals.{first, sauvola_settings}
 use borrow.Author.Tests.{eq-eqb, ne_eqb, lt-ltb, le-ltb}
 use Rattle.imgproc.proofs.threshold.check_settings.Goals as goal
+use Rattle.imgproc.proofs.threshold.check_settings.Goals.{
+  then-config-eq0-via-then-config-eq0,
+  then-config-eq0-via-else-config-eq0+then-config-gt1000,
+  then-config-eq0-via-else-config-eq0+else-config-gt1000+then-config-eq0-2,
+}
 
 pub returns-then-config-eq0 : goal.returns-then-config-eq0
 unfolding first sauvola_settings
-returns-then-config-eq0 c = simp (eq-eqb c.args.config.radius 0 c.if-config-eq0.true)
-
-pub returns-then-config-gt1000 : goal.returns-then-config-gt1000
-unfolding first sauvola_settings
-returns-then-config-gt1000 c =
-    let a = c.args in
-    simp (ne_eqb a.config.radius 0 c.if-config-eq0.false, lt-ltb 1000 a.config.k_milli c.if-config-gt1000.true)
-
-pub returns-then-config-eq0-2 : goal.returns-then-config-eq0-2
-unfolding first sauvola_settings
-returns-then-config-eq0-2 c =
-    let a = c.args in
-    simp (
-      ne_eqb a.config.radius 0 c.if-config-eq0.false,
-      le-ltb 1000 a.config.k_milli c.if-config-gt1000.false,
-      eq-eqb a.config.dynamic_range 0 c.if-config-eq0-2.true,
-    )
+returns-then-config-eq0 c =
+    let s = c.args.config in
+    elim c.then-config-eq0.branch [
+      | then-config-eq0-via-then-config-eq0 w ↦ simp (eq-eqb s.radius 0 w.if-config-eq0.true)
+      | then-config-eq0-via-else-config-eq0+then-config-gt1000 w ↦
+          simp (ne_eqb s.radius 0 w.if-config-eq0.false, lt-ltb 1000 s.k_milli w.if-config-gt1000.true)
+      | then-config-eq0-via-else-config-eq0+else-config-gt1000+then-config-eq0-2 w ↦
+          simp (
+            ne_eqb s.radius 0 w.if-config-eq0.false,
+            le-ltb 1000 s.k_milli w.if-config-gt1000.false,
+            eq-eqb s.dynamic_range 0 w.if-config-eq0-2.true,
+          )
+    ]
 
 pub returns : goal.returns
 unfolding first sauvola_settings
 returns c =
-    let a = c.args in
-    let low = c.if-config-gt1000.false in
+    let s = c.args.config in
     simp (
-      ne_eqb a.config.radius 0 c.if-config-eq0.false,
-      le-ltb 1000 a.config.k_milli low,
-      ne_eqb a.config.dynamic_range 0 c.if-config-eq0-2.false,
+      ne_eqb s.radius 0 c.if-config-eq0.false,
+      le-ltb 1000 s.k_milli c.if-config-gt1000.false,
+      ne_eqb s.dynamic_range 0 c.if-config-eq0-2.false,
     )

@@ -1,11 +1,7 @@
-use Prim.Native.Nat.{◌+◌}
+-- `integer_sqrt` is std's root. Assumes nothing.
 use native.Mathlib.Omega.{arith}
-use mathlib.Core.Path.{◌≡◌}
 use Rattle.imgproc.specs.WholeRoot.{root_is}
 use Rattle.imgproc.proofs.threshold.integer_sqrt.Goals as goal
 
 pub returns : goal.returns
-returns c =
-    let l = c.loop-high in
-    let e : l.high ≡ l.low + 1 = omega arith in
-    (root_is _ _ (l.invariant.1.1.0, rw (← e) l.invariant.1.1.1), omega arith)
+returns c = (root_is _ _ (c.isqrt.ensures.square_le, c.isqrt.ensures.next_square_gt), omega (arith, c.isqrt.ensures.bound))

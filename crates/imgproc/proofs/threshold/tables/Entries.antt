@@ -1,26 +1,25 @@
 -- The steps of the loops that build both tables: one entry more, a row begun, one pixel further, a row ended. Assumes nothing.
-use Prim.Native.Nat.{ℕ, ◌+◌, ◌*◌, ◌/◌, ◌%◌, ◌≤◌, ◌<◌}
+use Prim.Native.Nat.{ℕ, ◌+◌, ◌-◌, ◌*◌, ◌/◌, ◌%◌, ◌≤◌, ◌<◌}
 use native.Mathlib.Nat.{mul-le-mul_right, mul-le-mul, le_trans, add_assoc, div-eq_of_lt}
 use native.Mathlib.Omega.{arith}
-use mathlib.Core.Path.{◌≡◌, refl, ap, sym, ◌∙◌, subst}
+use mathlib.Core.Path.{◌≡◌, ap, sym, ◌∙◌, subst}
 use mathlib.Core.List.{List}
 use lib.Arith.{digits_div, digits_mod}
 use lib.ListN.{length, set, get_or, length-set}
 use lib.Seq.{get_or-set_same, get_or-set_other}
+use Rattle.std.proofs.Common.{replicate}
+use Rattle.std.proofs.lemmas.List.{length-replicate, get_or-replicate}
 use borrow.Author.Count.{below_more}
 use Rattle.image.specs.declared.Geometry.{Geometry}
 use Rattle.image.specs.Layout.{side_limit}
-use Rattle.image.specs.Views.{pixel_picture}
+use Rattle.image.specs.FillLaws.{put_row, lent_row}
+use Rattle.image.specs.Plane.{part, overwritten}
+use borrow.Rule.Slice.PartMut.{put_mid}
+use Rattle.image.specs.PlaneLaws.{length-overwritten, overwritten_before, overwritten_within}
 use Rattle.imgproc.specs.Refusals.{table_entries}
 use Rattle.imgproc.specs.Sums.{squared, sum_to, box_sum}
 use Rattle.imgproc.specs.SumLaws.{sum_none, sum_more, sum_le, box_top, box_left, box_down, box_le}
-use Rattle.imgproc.specs.Tables.{pixels_of, Holds, Both}
-
--- ---- the pixels of a kept picture
-
--- each pixel of a picture of bytes is a byte
-pub pixel_byte : (d : List ℕ) (g : Geometry) → ((i : ℕ) → get_or d i 0 ≤ 255) → (x y : ℕ) → x < g.width → y < g.height → pixels_of d g x y ≤ 255
-pixel_byte d g byte x y X Y = rw (pixel_picture d g x y X Y) (byte (y * g.stride + x))
+use Rattle.imgproc.specs.Tables.{pixels_of, Holds, Both, TableRows}
 
 -- ---- entries
 
@@ -53,10 +52,6 @@ module _ (f : ℕ → ℕ → ℕ) (wide base n : ℕ) (ws : List ℕ) (v : ℕ)
   holds_other j o h k m = get_or-set_other ws j (base + k) v 0 (o k m) ∙ h k m
 
 module _ (f : ℕ → ℕ → ℕ) (w h base : ℕ) where
-  -- none of either table yet
-  pub both_none : (ws : List ℕ) → base + table_entries w h ≤ length ws → Both f w h base 0 ws
-  both_none ws r = record { sums = λ k l. absurd (omega arith); squares = λ k l. absurd (omega arith); room = r }
-
   -- one entry more of both tables
   pub both_more :
       (n : ℕ) {ws : List ℕ} (u v : ℕ)
@@ -88,11 +83,11 @@ module _ (f : ℕ → ℕ → ℕ) (w h base : ℕ) where
 -- ---- a row of the tables, below row y of the picture
 
 -- after x of the picture's pixels, whose sums are s and q
-pub record RowSoFar (f : ℕ → ℕ → ℕ) (w h base y long : ℕ) (ws : List ℕ) (s q x : ℕ) : Type 0 where
+pub record RowSoFar (f : ℕ → ℕ → ℕ) (w h base y : ℕ) (ws : List ℕ) (s q x : ℕ) : Type 0 where
   pub upto : x ≤ w
-  pub same : length ws ≡ long
   pub sum : s ≡ sum_to (λ i. f i y) x
   pub square : q ≡ sum_to (λ i. squared f i y) x
+  pub bytes : (i : ℕ) → i < x → f i y ≤ 255
   pub both : Both f w h base (y * (w + 1) + (w + 1) + (x + 1)) ws
 
 -- the two rows of a table beside row y lie in it
@@ -117,7 +112,6 @@ module _ (f : ℕ → ℕ → ℕ) (w h base y : ℕ) (m : y < h) where
       (ws : List ℕ)
       → Both f w h base ((y + 1) * (w + 1)) ws
       → RowSoFar f w h base y
-      (length (set (set ws (base + (y * (w + 1) + (w + 1))) 0) (base + (w + 1) * (h + 1) + (y * (w + 1) + (w + 1))) 0))
       (set (set ws (base + (y * (w + 1) + (w + 1))) 0) (base + (w + 1) * (h + 1) + (y * (w + 1) + (w + 1))) 0)
       0 0 0
   row_start ws b =
@@ -125,23 +119,16 @@ module _ (f : ℕ → ℕ → ℕ) (w h base y : ℕ) (m : y < h) where
       let n' : (y + 1) * (w + 1) ≡ y * (w + 1) + (w + 1) = omega arith in
       record {
         upto = omega arith;
-        same = refl;
         sum = sym (sum_none (λ i. f i y));
         square = sym (sum_none (λ i. squared f i y));
+        bytes = λ i l. absurd (omega arith);
         both =
             both_more f w h base (y * (w + 1) + (w + 1)) 0 0 (subst (λ (k : ℕ). Both f w h base k ws) n' b) (omega (arith, rows_fit w h y m))
             (entry_left f (w + 1) (y + 1) (omega arith) ∙ ap (λ (k : ℕ). box_sum f (k % (w + 1)) (k / (w + 1))) n)
             (entry_left (squared f) (w + 1) (y + 1) (omega arith) ∙ ap (λ (k : ℕ). box_sum (squared f) (k % (w + 1)) (k / (w + 1))) n);
       }
 
-  -- and ends after w pixels
-  pub row_end : (long : ℕ) (ws : List ℕ) (s q x : ℕ) → RowSoFar f w h base y long ws s q x → w ≤ x → Both f w h base ((y + 2) * (w + 1)) ws
-  row_end long ws s q x r l =
-      let u = r.upto in
-      let n : y * (w + 1) + (w + 1) + (x + 1) ≡ (y + 2) * (w + 1) = omega arith in
-      subst (λ (k : ℕ). Both f w h base k ws) n r.both
-
-  module _ (long : ℕ) (ws : List ℕ) (s q x : ℕ) (r : RowSoFar f w h base y long ws s q x) (l : x < w) where
+  module _ (ws : List ℕ) (s q x : ℕ) (r : RowSoFar f w h base y ws s q x) (l : x < w) where
     pub above_sum : get_or ws (base + (y * (w + 1) + (x + 1))) 0 ≡ box_sum f (x + 1) y
     above_sum = both_sum f w h base (y * (w + 1) + (w + 1) + (x + 1)) ws r.both (x + 1) y (omega arith) (omega arith)
 
@@ -152,7 +139,8 @@ module _ (f : ℕ → ℕ → ℕ) (w h base y : ℕ) (m : y < h) where
     pub row_step :
         (v : ℕ)
         → v ≡ f x y
-        → RowSoFar f w h base y long
+        → v ≤ 255
+        → RowSoFar f w h base y
         (set
         (set ws (base + (y * (w + 1) + (w + 1) + (x + 1))) (get_or ws (base + (y * (w + 1) + (x + 1))) 0 + (s + v)))
         (base + (w + 1) * (h + 1) + (y * (w + 1) + (w + 1) + (x + 1)))
@@ -160,14 +148,14 @@ module _ (f : ℕ → ℕ → ℕ) (w h base y : ℕ) (m : y < h) where
         (s + v)
         (q + v * v)
         (x + 1)
-    row_step v e =
+    row_step v e b =
         let n = y * (w + 1) + (w + 1) + (x + 1) in
         let e2 : v * v ≡ f x y * f x y = ap (λ (k : ℕ). k * k) e in
         record {
           upto = omega arith;
-          same = simp length-set r.same;
           sum = omega (arith, r.sum, sum_more (λ i. f i y) x);
           square = omega (arith, r.square, sum_more (λ i. squared f i y) x, e2);
+          bytes = below_more (λ i. f i y ≤ 255) x r.bytes (rw e at b);
           both =
               subst (λ (k : ℕ). Both f w h base k
               (set (set ws (base + n) (get_or ws (base + (y * (w + 1) + (x + 1))) 0 + (s + v))) (base + (w + 1) * (h + 1) + n)
@@ -179,8 +167,89 @@ module _ (f : ℕ → ℕ → ℕ) (w h base y : ℕ) (m : y < h) where
         }
 
     -- the row's sums are small
-    pub s_small : ((i j : ℕ) → i < w → j < h → f i j ≤ 255) → s ≤ 255 * x
-    s_small byte = rw r.sum (sum_le (λ i. f i y) 255 x (λ i k. byte i y (omega arith) m))
+    pub s_small : s ≤ 255 * x
+    s_small = rw r.sum (sum_le (λ i. f i y) 255 x r.bytes)
 
-    pub q_small : ((i j : ℕ) → i < w → j < h → f i j ≤ 255) → q ≤ 65025 * x
-    q_small byte = rw r.square (sum_le (λ i. squared f i y) 65025 x (λ i k. mul-le-mul (byte i y (omega arith) m) (byte i y (omega arith) m)))
+    pub q_small : q ≤ 65025 * x
+    q_small = rw r.square (sum_le (λ i. squared f i y) 65025 x (λ i k. mul-le-mul (r.bytes i k) (r.bytes i k)))
+
+-- a row ends after the picture's width
+pub row_end :
+    {d : List ℕ} {g : Geometry} {base y s q x : ℕ} {before ws : List ℕ}
+    → TableRows d g base (y + 1) before
+    → RowSoFar (pixels_of d g) g.width g.height base y ws s q x
+    → x ≡ g.width
+    → TableRows d g base (y + 2) ws
+row_end {d} {g} {base} {y} {x = x} {ws = ws} t r e =
+    let n : y * (g.width + 1) + (g.width + 1) + (x + 1) ≡ (y + 2) * (g.width + 1) = omega arith in
+    record {
+      both = subst (λ (k : ℕ). Both (pixels_of d g) g.width g.height base k ws) n r.both;
+      bytes = λ i j l m. below_more (λ j. pixels_of d g i j ≤ 255) y (λ j k. t.bytes i j l (omega arith)) (r.bytes i (omega arith)) j (omega arith);
+    }
+
+-- w zeros, filled into the part from a on
+filled : (a w : ℕ) (l : List ℕ) {r : List ℕ} → a + w ≤ length l → r ≡ replicate (length (part a (a + w - a) l)) 0
+    → put_mid a (a + w - a) l r ≡ overwritten a (replicate w 0) l
+filled a w l {r} fits e =
+    let z : r ≡ replicate w 0 = e ∙ ap (λ (n : ℕ). replicate n 0) (lent_row a w l fits) in
+    put_row a w l r (ap length z ∙ length-replicate w 0) ∙ ap (λ (p : List ℕ). overwritten a p l) z
+
+module _ (d : List ℕ) (g : Geometry) (base : ℕ) (ws : List ℕ) (room : base + table_entries g.width g.height ≤ length ws) where
+  abbrev wide : ℕ
+  wide = g.width + 1
+
+  abbrev area : ℕ
+  area = wide * (g.height + 1)
+
+  zeros : List ℕ
+  zeros = replicate wide 0
+
+  once : List ℕ
+  once = overwritten base zeros ws
+
+  top_zeros : TableRows d g base 1 (overwritten (base + area) zeros once)
+  unfolding zeros once
+  top_zeros =
+      let f = pixels_of d g in
+      let first : wide ≤ area = omega (arith, mul-le-mul_right {m = 1} {n = g.height + 1} wide (omega arith)) in
+      let n : length zeros ≡ wide = length-replicate wide 0 in
+      let l : length once ≡ length ws = length-overwritten base zeros ws (omega arith) in
+      let one : wide ≡ 1 * wide = omega arith in
+      record {
+        both =
+            subst (λ (n : ℕ). Both f g.width g.height base n (overwritten (base + area) zeros once)) one
+            (record {
+              sums =
+                  λ k m.
+                  overwritten_before (base + area) zeros once (omega arith) (base + k) (omega arith)
+                  ∙ overwritten_within base zeros ws (omega arith) k (omega arith)
+                  ∙ get_or-replicate wide k 0 0 m
+                  ∙ entry_top f wide k m;
+              squares =
+                  λ k m.
+                  overwritten_within (base + area) zeros once (omega arith) k (omega arith)
+                  ∙ get_or-replicate wide k 0 0 m
+                  ∙ entry_top (squared f) wide k m;
+              room = omega (arith, length-overwritten (base + area) zeros once (omega arith));
+            });
+        bytes = λ x y l m. absurd (omega arith);
+      }
+
+  -- the row of zeros above the picture, filled into both tables
+  pub top_filled : {r q : List ℕ}
+      → r ≡ replicate (length (part base (base + wide - base) ws)) 0
+      → q ≡ replicate (length (part (base + area) (base + area + wide - (base + area)) (put_mid base (base + wide - base) ws r))) 0
+      → TableRows d g base 1
+      (put_mid (base + area) (base + area + wide - (base + area)) (put_mid base (base + wide - base) ws r) q)
+  unfolding zeros once
+  top_filled {r} {q} e k =
+      let first : wide ≤ area = omega (arith, mul-le-mul_right {m = 1} {n = g.height + 1} wide (omega arith)) in
+      let n : length zeros ≡ wide = length-replicate wide 0 in
+      let l : length once ≡ length ws = length-overwritten base zeros ws (omega arith) in
+      let sums : put_mid base (base + wide - base) ws r ≡ once = filled base wide ws (omega arith) e in
+      let k' = subst (λ (l : List ℕ). q ≡ replicate (length (part (base + area) (base + area + wide - (base + area)) l)) 0) sums k in
+      let squares : put_mid (base + area) (base + area + wide - (base + area)) (put_mid base (base + wide - base) ws r) q
+      ≡ overwritten (base + area) zeros once =
+      ap (λ (l : List ℕ). put_mid (base + area) (base + area + wide - (base + area)) l q) sums
+      ∙ filled (base + area) wide once (omega arith) k' in
+      subst (TableRows d g base 1) (sym squares) top_zeros

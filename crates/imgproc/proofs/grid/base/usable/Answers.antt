@@ -1,25 +1,31 @@
 -- `usable` meets its contract. Assumes nothing.
-use lib.Ieee.{of_bits, nan_bits, neg}
-use Rattle.imgproc.proofs.grid.base.Floats.{all, no_range, no_low, no_high}
+use mathlib.Core.Path.{◌≡◌, sym, ap, ◌∙◌}
+use mathlib.Core.Bool.{Bool, ◌&&◌}
+use lib.Ieee.{of_bits, lt}
+use lib.Ieee.Scale.{finite}
+use Rattle.imgproc.specs.Grid.{nought}
+use Rattle.imgproc.proofs.grid.base.Floats.{finite_is}
 use Rattle.imgproc.proofs.grid.base.usable.Goals as goal
+use Rattle.imgproc.proofs.grid.base.usable.Goals.{Joined-is_finite, then-is_finite, else-is_finite}
 
-pub float_from_bits-infinite : goal.float_from_bits-infinite
-unfolding nan_bits
-float_from_bits-infinite c = tt
+-- the first two tests together
+both : (c : Joined-is_finite) → c.if-is_finite.value ≡ (finite c.args.k && finite c.args.range)
+both c =
+    let k = c.is_finite.ensures.value ∙ finite_is c.args.k in
+    elim c.if-is_finite.branch [
+      | then-is_finite w ↦ w.value-is ∙ w.is_finite-then-is_finite.ensures.value ∙ finite_is c.args.range
+          ∙ ap (λ (t : Bool). t && finite c.args.range) (sym w.if-is_finite.true ∙ k)
+      | else-is_finite w ↦ w.value-is ∙ w.if-is_finite.false ∙ ap (λ (t : Bool). t && finite c.args.range) (sym w.if-is_finite.false ∙ k)
+    ]
 
-pub returns-then-range-infinite : goal.returns-then-range-infinite
-unfolding of_bits neg
-returns-then-range-infinite c =
-    all c.args.k c.args.range c.if-k-infinite.true c.if-infinite-k.true c.if-range-infinite.true
+pub returns-then-is_finite-2 : goal.returns-then-is_finite-2
+unfolding of_bits
+returns-then-is_finite-2 c =
+    ap (λ (t : Bool). t && lt nought c.args.range)
+    (sym c.if-is_finite-2.true ∙ both (goal.at.returns-then-is_finite-2 c).Joined-is_finite)
 
-pub returns-else-range-infinite : goal.returns-else-range-infinite
-unfolding of_bits neg
-returns-else-range-infinite c = no_range c.args.k c.args.range c.if-range-infinite.false
-
-pub returns-else-infinite-k : goal.returns-else-infinite-k
-unfolding of_bits neg
-returns-else-infinite-k c = no_low c.args.k c.args.range c.if-infinite-k.false
-
-pub returns-else-k-infinite : goal.returns-else-k-infinite
-unfolding of_bits neg
-returns-else-k-infinite c = no_high c.args.k c.args.range c.if-k-infinite.false
+pub returns-else-is_finite-2 : goal.returns-else-is_finite-2
+returns-else-is_finite-2 c =
+    c.if-is_finite-2.false
+    ∙ ap (λ (t : Bool). t && lt nought c.args.range)
+    (sym c.if-is_finite-2.false ∙ both (goal.at.returns-else-is_finite-2 c).Joined-is_finite)

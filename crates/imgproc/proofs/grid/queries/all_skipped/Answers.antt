@@ -1,19 +1,18 @@
-use mathlib.Core.Path.{◌≡◌, sym, ap, ◌∙◌}
-use native.Mathlib.Omega.{arith}
-use Rattle.imgproc.specs.GridCalls.{all_skipped}
-use Rattle.imgproc.proofs.grid.queries.Skipped.{none, one_more, broken}
+-- `all_skipped` tests each byte. Assumes nothing.
+use Rattle.std.proofs.Common.{◌≡◌, ◌∙◌, ap, ℕ, ◌+◌, ◌-◌, take, drop, rules, tests, arith}
+use Rattle.std.specs.List.{list_all}
+use Rattle.std.proofs.lemmas.Iterator.{YieldsList-from_slice}
+use Rattle.std.proofs.lemmas.Iterator.Search.{all_from_yields_List}
+use Rattle.imgproc.proofs.grid.queries.Skipped.{marked, over_list}
 use Rattle.imgproc.proofs.grid.queries.all_skipped.Goals as goal
-
-pub loop-i-init : goal.loop-i-init
-loop-i-init c = (omega arith, none _ _)
-
-pub returns-then-skips-at-eq0 : goal.returns-then-skips-at-eq0
-returns-then-skips-at-eq0 c = broken _ _ _ _ c.loop-i-test.true c.if-skips-at-eq0.true
-
-pub loop-i-preserved : goal.loop-i-preserved
-loop-i-preserved c = (omega arith, one_more _ _ _ c.loop-i.invariant.1 c.if-skips-at-eq0.false)
 
 pub returns : goal.returns
 returns c =
-    let e : c.loop-i.i ≡ c.args.n = omega arith in
-    sym (sym (ap (all_skipped c.args.skips.now c.args.at) e) ∙ c.loop-i.invariant.1)
+    let a = c.args in
+    let d = a.skips.now in
+    let n : a.at + a.n - a.at ≡ a.n = omega arith in
+    all_from_yields_List marked _ _ _ c.all.ensures.ran
+    (YieldsList-from_slice (take (a.at + a.n - a.at) (drop a.at d)) cc)
+    (λ x b q k. search (rules, tests))
+    ∙ ap (λ (k : ℕ). list_all marked (take k (drop a.at d))) n
+    ∙ over_list d a.at a.n c.requires

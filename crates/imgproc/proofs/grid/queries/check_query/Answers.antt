@@ -24,10 +24,10 @@ pub returns-then-len-grid : goal.returns-then-len-grid
 unfolding first
 returns-then-len-grid c = let u = fine (goal.at.returns-then-len-grid c).Else-bad_grid in simp (u, lt-ltb _ _ c.if-len-grid.true)
 
-pub returns-then-inside : goal.returns-then-inside
+pub returns-then-not-inside : goal.returns-then-not-inside
 unfolding first
-returns-then-inside c = let u = fine (goal.at.returns-then-inside c).Else-bad_grid in simp (u, le-ltb _ _ c.if-len-grid.false, c.if-inside.true)
+returns-then-not-inside c = let u = fine (goal.at.returns-then-not-inside c).Else-bad_grid in simp (u, le-ltb _ _ c.if-len-grid.false, c.if-not-inside.true)
 
-pub returns-else-inside : goal.returns-else-inside
+pub returns : goal.returns
 unfolding first
-returns-else-inside c = let u = fine (goal.at.returns-else-inside c).Else-bad_grid in simp (u, le-ltb _ _ c.if-len-grid.false, c.if-inside.false)
+returns c = let u = fine (goal.at.returns c).Else-bad_grid in simp (u, le-ltb _ _ c.if-len-grid.false, c.if-not-inside.false)

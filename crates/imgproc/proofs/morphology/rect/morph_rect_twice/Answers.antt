@@ -1,18 +1,9 @@
--- `morph_rect_twice` meets its contract: each sweep leaves what the next one asks. Assumes nothing.
-use Rattle.imgproc.proofs.morphology.Planes.{columns_ready, morphed, again_ready, pair_morphed}
+-- `morph_rect_twice` meets its contract: the first half leaves what the second asks. Assumes nothing.
+use Rattle.imgproc.proofs.morphology.Planes.{again_ready, pair_morphed}
 use Rattle.imgproc.proofs.morphology.rect.morph_rect_twice.Goals as goal
 
-pub sweep_columns-requires : goal.sweep_columns-requires
-sweep_columns-requires c = columns_ready c.requires.once c.sweep_rows.ensures
-
-pub sweep_rows-requires-2 : goal.sweep_rows-requires-2
-sweep_rows-requires-2 c = (again_ready c.requires (morphed c.requires.once c.sweep_rows.ensures c.sweep_columns.ensures)).rows
-
-pub sweep_columns-requires-2 : goal.sweep_columns-requires-2
-sweep_columns-requires-2 c =
-    columns_ready (again_ready c.requires (morphed c.requires.once c.sweep_rows.ensures c.sweep_columns.ensures)) c.sweep_rows-2.ensures
+pub morph_rect-requires-2 : goal.morph_rect-requires-2
+morph_rect-requires-2 g c = rw c.in_place.ensures (again_ready c.requires c.morph_rect.ensures)
 
 pub returns : goal.returns
-returns c =
-    let half = morphed c.requires.once c.sweep_rows.ensures c.sweep_columns.ensures in
-    pair_morphed c.requires half (morphed (again_ready c.requires half) c.sweep_rows-2.ensures c.sweep_columns-2.ensures)
+returns g c = pair_morphed c.requires c.morph_rect.ensures (rw c.in_place.ensures at c.morph_rect-2.ensures)

@@ -6,28 +6,21 @@ use Rattle.imgproc.specs.Sweeps.{area}
 use Rattle.imgproc.proofs.morphology.sweeps.Passes.{lines_swept, pass_again, passed_room}
 use Rattle.imgproc.proofs.morphology.sweeps.running_extremum_1d.Goals as goal
 
-pub forward_pass-a-requires : goal.forward_pass-a-requires
-forward_pass-a-requires c = c.requires.pass
-
 pub backward_pass-b-requires : goal.backward_pass-b-requires
-backward_pass-b-requires c =
+backward_pass-b-requires g c =
     let pre = c.requires in
     let said = c.forward_pass-a.ensures in
     pass_again pre.pass said.rest.long (passed_room pre.room said (omega arith))
 
 pub join_pass-requires : goal.join_pass-requires
-join_pass-requires c =
+join_pass-requires g c =
     let pre = c.requires in
     let first = c.forward_pass-a.ensures in
     let second = c.backward_pass-b.ensures in
     pass_again pre.pass (second.rest.long ∙ first.rest.long)
     (passed_room (passed_room {l = 2 * area c.args.planes} pre.room first (omega arith)) second (omega arith))
 
-pub shape_of-ws : goal.shape_of-ws
-shape_of-ws c =
-    omega (arith, c.join_pass.ensures.rest.long, c.backward_pass-b.ensures.rest.long, c.forward_pass-a.ensures.rest.long)
-
 pub returns : goal.returns
-returns c =
+returns g c =
     let asked = c.requires.pass in
     lines_swept asked.kernel asked.source_apart c.forward_pass-a.ensures c.backward_pass-b.ensures c.join_pass.ensures

@@ -1,5 +1,5 @@
 -- `transpose` meets its contract: x columns are transposed. Assumes nothing.
-use Prim.Native.Nat.{ℕ, ◌-◌, ◌≤◌, ◌<◌}
+use Prim.Native.Nat.{ℕ, ◌<◌}
 use mathlib.Core.Path.{◌≡◌}
 use Rattle.imgproc.specs.Sweeps.{lane}
 use Rattle.imgproc.proofs.morphology.Lanes.{Done}
@@ -7,7 +7,4 @@ use Rattle.imgproc.proofs.morphology.sweeps.transpose.Given as goal
 
 abbrev pub invariant-loop-x : goal.invariant-loop-x
 invariant-loop-x l =
-    (l.x ≤ l.columns) × Done (λ (y i v : ℕ). v ≡ lane l.initial.ws l.from l.columns i y) (λ (i : ℕ). i < l.x) l.to l.rows l.columns l.initial.ws l.ws
-
-abbrev pub decreases-loop-x : goal.decreases-loop-x
-decreases-loop-x l = l.columns - l.x
+    Done (λ (y i v : ℕ). v ≡ lane l.initial.ws l.from l.columns i y) (λ (i : ℕ). i < l.x) l.to l.rows l.columns l.initial.ws l.ws

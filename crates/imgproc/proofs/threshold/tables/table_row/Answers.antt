@@ -1,96 +1,104 @@
 use Prim.Native.Nat.{ℕ, ◌+◌, ◌*◌, ◌≤◌, ◌<◌}
-use native.Mathlib.Nat.{mul-le-mul, le_trans, le_of_lt}
+use native.Mathlib.Nat.{mul-le-mul, le_trans, le_refl}
 use native.Mathlib.Omega.{arith}
 use mathlib.Core.Path.{◌≡◌}
-use lib.ListN.{get_or}
+use lib.ListN.{get_or, length-set}
 use Rattle.image.specs.Layout.{side_limit}
 use Rattle.image.specs.RowLaws.{row_long, row_picture}
 use Rattle.imgproc.specs.Sums.{squared}
 use Rattle.imgproc.specs.Tables.{pixels_of}
-use Rattle.imgproc.proofs.threshold.tables.Entries.{pixel_byte, box_small, row_start, row_step, above_sum, above_square, s_small, q_small}
+use Rattle.imgproc.proofs.threshold.tables.Entries.{box_small, rows_fit, row_start, row_step, row_end, above_sum, above_square, s_small, q_small}
 use Rattle.imgproc.proofs.threshold.tables.table_row.Goals as goal
-use Rattle.imgproc.proofs.threshold.tables.table_row.Goals.{In-loop-x, Start}
+use Rattle.imgproc.proofs.threshold.tables.table_row.Goals.{In-loop-i, Start}
 
 abbrev pixels : Start → ℕ → ℕ → ℕ
-pixels s = pixels_of s.args.src.now s.args.geometry
+pixels s = pixels_of s.args.source.pixels.now s.args.source.geometry
 
--- each pixel is a byte
-bytes : (t : In-loop-x) (i j : ℕ) → i < t.args.geometry.width → j < t.args.geometry.height → pixels_of t.args.src.now t.args.geometry i j ≤ 255
-bytes t =
-    pixel_byte t.args.src.now t.args.geometry
-    (λ i. omega (arith, t.type_inv.src i))
+-- the row has the picture's width
+inside : (t : In-loop-i) → t.loop-i.i < t.args.source.geometry.width
+inside t =
+    let s = t.args.source in
+    omega (arith, row_long s.pixels.now s.geometry s.kept t.args.y t.requires.0 t.row-pixel-items.ensures.bytes, t.loop-i-test.true)
 
--- the byte that is read is pixel (x, y)
-value-is : (t : In-loop-x)
-    → get_or t.row-row.result.now t.loop-x.x 0 ≡ pixels_of t.args.src.now t.args.geometry t.loop-x.x t.args.y
+-- the byte at hand is pixel (i, y)
+value-is : (t : In-loop-i)
+    → get_or t.row-pixel-items.result.now t.loop-i.i 0
+    ≡ pixels_of t.args.source.pixels.now t.args.source.geometry t.loop-i.i t.args.y
 value-is t =
-    row_picture t.args.src.now t.args.geometry t.requires.0 t.args.y t.requires.1.0
-    t.row-row.ensures.bytes t.loop-x.x t.loop-x-test.true
+    let s = t.args.source in
+    row_picture s.pixels.now s.geometry s.kept t.args.y t.requires.0 t.row-pixel-items.ensures.bytes t.loop-i.i (inside t)
 
 -- it and its square are small
-value-small : (t : In-loop-x)
-    → let v = get_or t.row-row.result.now t.loop-x.x 0 in (v ≤ 255) × (v * v ≤ 65025)
+value-small : (t : In-loop-i)
+    → let v = get_or t.row-pixel-items.result.now t.loop-i.i 0 in (v ≤ 255) × (v * v ≤ 65025)
 value-small t =
-    let b = bytes t t.loop-x.x t.args.y t.loop-x-test.true t.requires.1.0 in
-    rw (value-is t) (b, mul-le-mul b b)
+    let v = get_or t.row-pixel-items.result.now t.loop-i.i 0 in
+    let b : v ≤ 255 = omega (arith, t.type_inv.pixel-items t.loop-i.i) in
+    (b, mul-le-mul b b)
 
 -- so are the row's sums
-sums-small : (t : In-loop-x) → let l = t.loop-x in (l.sum ≤ 255 * l.x) × ((l.sum_sq ≤ 65025 * l.x) × (l.x < side_limit))
+sums-small : (t : In-loop-i) → let l = t.loop-i in (l.sum ≤ 255 * l.i) × ((l.sum_sq ≤ 65025 * l.i) × (l.i < side_limit))
 sums-small t =
-    let l = t.loop-x in (
-      s_small (pixels_of t.args.src.now t.args.geometry) _ _ _ _ t.requires.1.0 _ l.workspace _ _ _ l.invariant t.loop-x-test.true (bytes t),
-      (
-        q_small (pixels_of t.args.src.now t.args.geometry) _ _ _ _ t.requires.1.0 _ l.workspace _ _ _ l.invariant t.loop-x-test.true (bytes t),
-        omega (arith, t.loop-x-test.true, t.requires.0.small_width),
-      ),
+    let l = t.loop-i in
+    let f = pixels_of t.args.source.pixels.now t.args.source.geometry in (
+      s_small f _ _ _ _ t.requires.0 l.workspace _ _ _ l.invariant (inside t),
+      (q_small f _ _ _ _ t.requires.0 l.workspace _ _ _ l.invariant (inside t), omega (arith, inside t, t.args.source.kept.small_width)),
     )
 
 -- and the entries above
 above_small :
-    (t : In-loop-x)
-    → let l = t.loop-x in
-    let wide = t.args.geometry.width + 1 in
-    (get_or l.workspace (t.args.at + (t.args.y * wide + (l.x + 1))) 0 ≤ 65025 * side_limit * side_limit)
-    × (get_or l.workspace (t.args.at + wide * (t.args.geometry.height + 1) + (t.args.y * wide + (l.x + 1))) 0 ≤ 65025 * side_limit * side_limit)
+    (t : In-loop-i)
+    → let l = t.loop-i in
+    let wide = t.args.source.geometry.width + 1 in
+    (get_or l.workspace (t.args.at + (t.args.y * wide + (l.i + 1))) 0 ≤ 65025 * side_limit * side_limit)
+    × (get_or l.workspace (t.args.at + wide * (t.args.source.geometry.height + 1) + (t.args.y * wide + (l.i + 1))) 0 ≤ 65025 * side_limit * side_limit)
 above_small t =
-    let g = t.args.geometry in
-    let l = t.loop-x in
-    let k = t.requires.0 in
-    let m = t.requires.1.0 in
-    let x1 : l.x + 1 ≤ g.width = omega (arith, t.loop-x-test.true) in (
-      rw (above_sum (pixels_of t.args.src.now t.args.geometry) _ _ _ _ m _ l.workspace _ _ _ l.invariant t.loop-x-test.true)
-          (box_small (pixels_of t.args.src.now t.args.geometry) g.width g.height (l.x + 1) t.args.y
-          (λ i j a b. le_trans (bytes t i j a b) (omega arith)) x1 (le_of_lt m) k.small_width k.small_height),
-      rw (above_square (pixels_of t.args.src.now t.args.geometry) _ _ _ _ m _ l.workspace _ _ _ l.invariant t.loop-x-test.true)
-          (box_small (squared (pixels_of t.args.src.now t.args.geometry)) g.width g.height (l.x + 1) t.args.y
-          (λ i j a b. mul-le-mul (bytes t i j a b) (bytes t i j a b)) x1 (le_of_lt m) k.small_width
-          k.small_height),
+    let g = t.args.source.geometry in
+    let f = pixels_of t.args.source.pixels.now g in
+    let l = t.loop-i in
+    let k = t.args.source.kept in
+    let m = t.requires.0 in
+    let b = t.requires.1.bytes in
+    let x1 : l.i + 1 ≤ g.width = omega (arith, inside t) in
+    let y1 : t.args.y ≤ side_limit = omega (arith, k.small_height) in (
+      rw (above_sum f _ _ _ _ m l.workspace _ _ _ l.invariant (inside t))
+          (box_small f g.width t.args.y (l.i + 1) t.args.y
+          (λ i j a b'. le_trans (b i j a (omega arith)) (omega arith)) x1 (le_refl _) k.small_width y1),
+      rw (above_square f _ _ _ _ m l.workspace _ _ _ l.invariant (inside t))
+          (box_small (squared f) g.width t.args.y (l.i + 1) t.args.y
+          (λ i j a b'. mul-le-mul (b i j a (omega arith)) (b i j a (omega arith))) x1 (le_refl _) k.small_width y1),
     )
 
-pub loop-x-init : goal.loop-x-init
-loop-x-init c = row_start (pixels (goal.at.loop-x-init c).Start) _ _ _ _ c.requires.1.0 c.args.workspace.now c.requires.1.1
-
-pub bounds-row-x : goal.bounds-row-x
-bounds-row-x c =
-    omega (
-      arith,
-      row_long c.args.src.now c.args.geometry c.requires.0 c.args.y c.requires.1.0 c.row-row.ensures.bytes,
-      c.loop-x-test.true,
-    )
+pub loop-i-init : goal.loop-i-init
+loop-i-init c = row_start (pixels (goal.at.loop-i-init c).Start) _ _ _ _ c.requires.0 c.args.workspace.now c.requires.1.both
 
 pub overflow_add-sum : goal.overflow_add-sum
-overflow_add-sum c = omega (arith, value-small (goal.at.overflow_add-sum c).In-loop-x, sums-small (goal.at.overflow_add-sum c).In-loop-x)
+overflow_add-sum c = omega (arith, value-small (goal.at.overflow_add-sum c).In-loop-i, sums-small (goal.at.overflow_add-sum c).In-loop-i)
 
 pub overflow_add-sum_sq : goal.overflow_add-sum_sq
-overflow_add-sum_sq c = omega (arith, value-small (goal.at.overflow_add-sum_sq c).In-loop-x, sums-small (goal.at.overflow_add-sum_sq c).In-loop-x)
+overflow_add-sum_sq c = omega (arith, value-small (goal.at.overflow_add-sum_sq c).In-loop-i, sums-small (goal.at.overflow_add-sum_sq c).In-loop-i)
 
-pub overflow_add-s-in-loop-x-2 : goal.overflow_add-s-in-loop-x-2
-overflow_add-s-in-loop-x-2 c = omega (arith, value-small (goal.at.overflow_add-s-in-loop-x-2 c).In-loop-x, sums-small (goal.at.overflow_add-s-in-loop-x-2 c).In-loop-x, above_small (goal.at.overflow_add-s-in-loop-x-2 c).In-loop-x)
+pub overflow_add-s-in-loop-i-2 : goal.overflow_add-s-in-loop-i-2
+overflow_add-s-in-loop-i-2 c =
+    let t = (goal.at.overflow_add-s-in-loop-i-2 c).In-loop-i in omega (arith, value-small t, sums-small t, above_small t)
 
-pub overflow_add-q-in-loop-x-2 : goal.overflow_add-q-in-loop-x-2
-overflow_add-q-in-loop-x-2 c = omega (arith, value-small (goal.at.overflow_add-q-in-loop-x-2 c).In-loop-x, sums-small (goal.at.overflow_add-q-in-loop-x-2 c).In-loop-x, above_small (goal.at.overflow_add-q-in-loop-x-2 c).In-loop-x)
+pub overflow_add-q-in-loop-i-2 : goal.overflow_add-q-in-loop-i-2
+overflow_add-q-in-loop-i-2 c =
+    let t = (goal.at.overflow_add-q-in-loop-i-2 c).In-loop-i in omega (arith, value-small t, sums-small t, above_small t)
 
-pub loop-x-preserved : goal.loop-x-preserved
-loop-x-preserved c =
-    let l = c.loop-x in
-    row_step (pixels (goal.at.loop-x-preserved c).Start) _ _ _ _ c.requires.1.0 _ l.workspace _ _ _ l.invariant c.loop-x-test.true _ (value-is (goal.at.loop-x-preserved c).In-loop-x)
+pub loop-i-preserved : goal.loop-i-preserved
+loop-i-preserved c =
+    let l = c.loop-i in
+    let t = (goal.at.loop-i-preserved c).In-loop-i in
+    row_step (pixels (goal.at.loop-i-preserved c).Start) _ _ _ _ c.requires.0 l.workspace _ _ _ l.invariant (inside t) _ (value-is t) (value-small t).0
+
+pub returns : goal.returns
+returns c =
+    let s = c.args.source in
+    let long = row_long s.pixels.now s.geometry s.kept c.args.y c.requires.0 c.row-pixel-items.ensures.bytes in
+    row_end c.requires.1 c.loop-i.invariant (omega (arith, long, c.loop-i.auto.i-end, c.loop-i-test.false))
+
+pub bounds-workspace-squares-in-loop-i-2 : goal.bounds-workspace-squares-in-loop-i-2
+bounds-workspace-squares-in-loop-i-2 c =
+    let t = (goal.at.bounds-workspace-squares-in-loop-i-2 c).In-loop-i in
+    omega (arith, inside t, rows_fit c.args.source.geometry.width c.args.source.geometry.height c.args.y c.requires.0, length-set {A = ℕ})

@@ -1,30 +1,7 @@
--- `is_skip` meets its contract. Assumes nothing.
-use Prim.Native.Nat.{ℕ}
-use lib.ListN.{length}
-use mathlib.Core.Path.{sym, ◌∙◌}
-use Rattle.imgproc.specs.declared.Check.{Check}
-use Rattle.imgproc.specs.Refusals.{first}
-use Rattle.imgproc.specs.GridCalls.{pixel_conditions, tile_of, skipped}
-use Rattle.imgproc.proofs.grid.queries.Grids.{pixel_within, answer_refused, answer_there}
+-- The tile of the pixel lies in the buffer. Assumes nothing.
+use Rattle.std.proofs.Common.{sym}
+use Rattle.imgproc.proofs.grid.queries.Grids.{pixel_within}
 use Rattle.imgproc.proofs.grid.queries.TileThresholdGrid.is_skip.Goals as goal
-use Rattle.imgproc.proofs.grid.queries.TileThresholdGrid.is_skip.Goals.{Start}
-
--- the check of the query, and the tile that it asks for
-abbrev check : Start → Check
-check s = let a = s.args in first (pixel_conditions a.self (length a.skips.now) a.x a.y)
-
-abbrev tile : Start → ℕ
-tile s = let a = s.args in tile_of a.self a.x a.y
-
-pub returns-in_default : goal.returns-in_default
-returns-in_default c =
-    answer_refused (check (goal.at.returns-in_default c).Start) (tile (goal.at.returns-in_default c).Start) c.pixel_place-place.ensures _ c.in_default.is c.place_refusal.ensures
 
 pub bounds-skips-i : goal.bounds-skips-i
-bounds-skips-i c = pixel_within _ _ _ _ _ (sym c.pixel_place-place.ensures ∙ c.in-At.is)
-
-pub returns : goal.returns
-returns c =
-    answer_there (check (goal.at.returns c).Start) (tile (goal.at.returns c).Start) c.pixel_place-place.ensures
-    (skipped c.args.skips.now)
-    c.in-At.is
+bounds-skips-i c = pixel_within _ _ _ _ _ (sym c.in_ok-i.ensures)

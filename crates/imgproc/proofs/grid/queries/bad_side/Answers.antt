@@ -1,9 +1,0 @@
--- `bad_side` meets its contract. Assumes nothing.
-use borrow.Author.Tests.{eq-eqb, ne_eqb}
-use Rattle.imgproc.proofs.grid.queries.bad_side.Goals as goal
-
-pub returns-then-n-eq0 : goal.returns-then-n-eq0
-returns-then-n-eq0 c = simp (eq-eqb _ _ c.if-n-eq0.true)
-
-pub returns : goal.returns
-returns c = simp (ne_eqb _ _ c.if-n-eq0.false)

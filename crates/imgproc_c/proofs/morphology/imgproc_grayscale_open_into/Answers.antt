@@ -1,6 +1,0 @@
--- The export returns the number of the call's answer, and stores its count. Assumes nothing.
-use Rattle.imgproc_c.proofs.Exporting.{exports}
-use Rattle.imgproc_c.proofs.morphology.imgproc_grayscale_open_into.Goals as goal
-
-pub returns : goal.returns
-returns c = exports c.grayscale_open_into-answer.ensures c.counted.ensures

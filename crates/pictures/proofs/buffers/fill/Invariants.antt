@@ -1,6 +1,0 @@
--- The loop stores as many bytes as the slice has. Assumes nothing.
-use Rattle.std.proofs.Common.{◌-◌, length}
-use Rattle.pictures.proofs.buffers.fill.Given as goal
-
-abbrev pub decreases-loop-i : goal.decreases-loop-i
-decreases-loop-i l = length l.initial.data - l.i
