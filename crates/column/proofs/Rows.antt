@@ -3,7 +3,7 @@ use Rattle.std.proofs.Common.{◌≡◌, refl, ℕ, ◌+◌, ◌*◌, ◌-◌, �
 use Rattle.image.specs.Plane.{pixel, tabulate, overwritten}
 use Rattle.std.proofs.Math.Arith.{digits_mod, digits_div}
 use Rattle.std.proofs.Math.Seq.{get_or-take, get_or-drop}
-use Rattle.image.specs.WriteLaws.{written_none, written_more, length-written}
+use Rattle.image.specs.WriteLaws.{written_none, written_more}
 use Rattle.column.specs.Drawing.{row_byte}
 use Rattle.column.specs.Steps.{ink_of}
 
@@ -47,10 +47,6 @@ pub none_drawn : (pixels : List ℕ) (w at : ℕ) (before : List ℕ) → Drawin
 none_drawn pixels w at before = record { place = omega arith; written = written_none (laid pixels w) at before }
 
 module _ {pixels : List ℕ} {w at : ℕ} {before : List ℕ} {t next : ℕ} {after : List ℕ} (d : Drawing pixels w at before t next after) where
-  -- the buffer keeps its length
-  pub drawing_length : next ≤ length before → length after ≡ length before
-  drawing_length h = length-written (laid pixels w) at t before after (omega (arith, d.place)) d.written
-
   -- one more byte is written
   pub drawing_more : {v : ℕ} → next < length before → v ≡ laid pixels w t → Drawing pixels w at before (t + 1) (next + 1) (set after next v)
   drawing_more {v} h e = record {

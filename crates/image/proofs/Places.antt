@@ -1,21 +1,18 @@
--- A pixel or row that is not refused lies in the slice; and one law for each way out of `get`, `set`, `row` and `row_mut`, where l is the layout that
--- the code holds. Assumes nothing.
+-- A pixel or row that is not refused lies in the slice; and what a row hands out is the row's, where l is the layout that the code holds.
+-- Assumes nothing.
 use Prim.Native.Nat.{ℕ, ◌+◌, ◌-◌, ◌*◌, ◌≤◌, ◌<◌}
-use native.Mathlib.Nat.{add-sub_cancel_left, zero-add}
+use native.Mathlib.Nat.{add-sub_cancel_left}
 use native.Mathlib.Omega.{arith}
 use mathlib.Core.Path.{◌≡◌, sym, ap, ◌∙◌}
-use mathlib.Core.List.{List, []}
-use lib.ListN.{length, set}
+use mathlib.Core.List.{List}
+use lib.ListN.{length}
 use denote.Ref.{Bor}
 use borrow.Author.Tests.{ltb-true}
 use Rattle.image.specs.declared.Geometry.{Geometry}
-use Rattle.image.specs.declared.LumaError.{LumaError}
-use Rattle.std.specs.Prelude.{Ok, Err}
-use Rattle.image.specs.Answers.{accepted, bare}
-use Rattle.image.specs.Layout.{Layout, number_of, pixel_layout, row_layout}
+use Rattle.std.specs.Prelude.{Ok}
+use Rattle.image.specs.Layout.{Layout, pixel_layout, row_layout}
 use Rattle.image.specs.LayoutLaws.{row_within, row_inside, pixel_inside}
-use Rattle.image.specs.Pixel.{value_in, written_in, bytes_in, Sets}
-use Rattle.image.specs.Plane.{pixel, part}
+use Rattle.image.specs.Plane.{part}
 use Rattle.image.specs.Row.{row_in, row_at, Hands}
 
 module _ (len : ℕ) (g : Geometry) {v : Geometry} {l : Layout} where
@@ -32,22 +29,8 @@ module _ (len : ℕ) (g : Geometry) {v : Geometry} {l : Layout} where
       let t = ltb-true x g.width k.1.0 in
       omega (arith, row_within k.0.0 y (ltb-true y g.height k.1.1))
 
-module _ (d : List ℕ) (g : Geometry) {l : Layout} where
-  module _ (x y : ℕ) (is : l ≡ pixel_layout (length d) g x y) where
-    pub value_found : {v : Geometry} → l ≡ Ok v → accepted (pixel d v.stride x y) ≡ value_in (pixel_layout (length d) g x y) d x y
-    value_found i = ap (λ (k : Layout). value_in k d x y) (sym i ∙ is)
-
-    pub set_done : (b : ℕ) {v : Geometry} → l ≡ Ok v → Sets d g x y b (accepted bare) (set d (y * v.stride + x) b)
-    set_done b i = record { answers = ap written_in (sym i ∙ is); leaves = ap (λ (k : Layout). bytes_in k d x y b) (sym i ∙ is) }
-
--- `row` and `row_mut` hand out r: its bytes and its place are the row's
+-- r, which `row` hands out: its bytes and its place are the row's
 module _ (d : Bor (List ℕ)) (g : Geometry) (y : ℕ) {l : Layout} (is : l ≡ row_layout (length d.now) g y) {r : Bor (List ℕ)} where
-  pub row_empty : {e : LumaError} → l ≡ Err e → r.now ≡ [] → r.ref_ptr ≡ (d.ref_ptr.0, 0 + d.ref_ptr.1) → Hands d g y r
-  row_empty i b p = record {
-    bytes = b ∙ ap (λ (k : Layout). row_in k d.now y) (sym i ∙ is);
-    place = p ∙ ap (λ (n : ℕ). (d.ref_ptr.0, n)) (zero-add d.ref_ptr.1) ∙ ap (λ (k : Layout). row_at k d.ref_ptr y) (sym i ∙ is);
-  }
-
   pub row_found :
       {v : Geometry}
       → l ≡ Ok v

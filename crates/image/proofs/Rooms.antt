@@ -6,8 +6,7 @@ use mathlib.Core.List.{List}
 use lib.ListN.{length}
 use borrow.Author.Tests.{lt-ltb, le-ltb}
 use Rattle.image.specs.declared.Geometry.{Geometry}
-use Rattle.image.specs.declared.LumaError.{LumaError}
-use Rattle.std.specs.Prelude.{Ok, Err}
+use Rattle.std.specs.Prelude.{Ok}
 use Rattle.image.specs.Answers.{Answer, accepted, refused, Bare, bare}
 use Rattle.image.specs.Layout.{Layout, Kept, layout_of}
 use Rattle.image.specs.LayoutLaws.{kept_as, area_small}

@@ -111,9 +111,6 @@ module _ (len : ℕ) (g : Geometry) {l : Layout} (is : l ≡ layout_of len g) wh
     row_within i t = let h = ap (λ (k : Geometry). k.height) (same i) in asked_within (ltb y g.height) i (lt-ltb y g.height (omega arith))
 
   module _ (x y : ℕ) where
-    pub pixel_refused : {e : LumaError} → l ≡ Err e → l ≡ pixel_layout len g x y
-    pixel_refused i = asked_refused (ltb x g.width && ltb y g.height) i
-
     pub pixel_right : {v : Geometry} → l ≡ Ok v → v.width ≤ x → Err OutsidePicture ≡ pixel_layout len g x y
     pixel_right i t =
         let w = ap (λ (k : Geometry). k.width) (same i) in

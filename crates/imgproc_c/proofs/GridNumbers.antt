@@ -16,9 +16,7 @@ use borrow.Author.Tests.{lt-ltb}
 use Rattle.image.specs.Answers.{Answer}
 use Rattle.imgproc.specs.declared.ImgProcError.TheVariants.{InvalidConfiguration}
 use Rattle.imgproc.specs.declared.grid.config.TileThresholdMethod.{TileThresholdMethod}
-use Rattle.imgproc.specs.declared.grid.config.TileThresholdMethod.TheVariants.{Sauvola}
 use Rattle.imgproc.specs.declared.grid.config.TileThresholdConfig.{TileThresholdConfig}
-use Rattle.imgproc.specs.Grid.{nought}
 use Rattle.imgproc.specs.declared.grid.TileCounts.{TileCounts}
 use Rattle.imgproc.specs.GridCalls.{
   usable_method,
@@ -36,13 +34,6 @@ use Rattle.imgproc.specs.RefusalLaws.{then_same, refuses, passes, refuses_last}
 use Rattle.imgproc_c.specs.Exports.{Tells}
 use Rattle.imgproc_c.specs.Grid.{method_of, method_conditions, settings, number_conditions, BuildsNumber}
 use Rattle.imgproc_c.proofs.Exporting.{tells_as}
-
--- any number but 0 and 1 stands for a method with the range 0
-pub other_method : (n : ℕ) (k range : Float)
-    → (n ≡ 0 → ⊥) → (n ≡ 1 → ⊥) → Sauvola (record { k = nought; dynamic_range = nought }) ≡ method_of n k range
-other_method zero k range no-midrange no-sauvola = absurd (no-midrange refl)
-other_method (suc zero) k range no-midrange no-sauvola = absurd (no-sauvola refl)
-other_method (suc (suc n)) k range no-midrange no-sauvola = refl
 
 -- a method whose range is 0 is refused, whatever the tile sides are
 out_of_range : (sides : Bool) → first (refused_if (sides || true) InvalidConfiguration) ≡ Err InvalidConfiguration

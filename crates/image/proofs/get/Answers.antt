@@ -1,7 +1,7 @@
 -- `get` reads the pixel's byte, or passes the refusal on. Assumes nothing.
 use native.Mathlib.Omega.{arith}
 use lib.ListN.{length}
-use Rattle.image.proofs.Places.{pixel_place_lem, value_found}
+use Rattle.image.proofs.Places.{pixel_place_lem}
 use Prim.Native.Nat.{◌+◌, ◌*◌, ◌<◌}
 use Rattle.image.proofs.get.Goals as goal
 use Rattle.image.proofs.get.Goals.{In_ok-g}
@@ -22,8 +22,3 @@ overflow_add-result c = omega (arith, place (goal.at.overflow_add-result c).In_o
 
 pub bounds-data-y : goal.bounds-data-y
 bounds-data-y c = place (goal.at.bounds-data-y c).In_ok-g
-
-pub returns : goal.returns
-returns c =
-    let a = c.args in
-    value_found a.«data».now a.geometry a.x a.y c.check_pixel.ensures c.in_ok-g.was

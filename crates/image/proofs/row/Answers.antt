@@ -1,9 +1,8 @@
 -- `row` hands out the row's own bytes where they stand, or an empty part. Assumes nothing.
 use native.Mathlib.Omega.{arith}
 use lib.ListN.{length}
-use mathlib.Core.Path.{refl}
 use Prim.Native.Nat.{◌+◌, ◌*◌, ◌≤◌}
-use Rattle.image.proofs.Places.{row_place_lem, row_empty, row_found}
+use Rattle.image.proofs.Places.{row_place_lem}
 use Rattle.image.proofs.row.Goals as goal
 use Rattle.image.proofs.row.Goals.{In-Ok}
 
@@ -23,8 +22,3 @@ overflow_add-to c = omega (arith, place (goal.at.overflow_add-to c).In-Ok)
 
 pub slice_bounds-result-end-2 : goal.slice_bounds-result-end-2
 slice_bounds-result-end-2 c = place (goal.at.slice_bounds-result-end-2 c).In-Ok
-
-pub returns : goal.returns
-returns c =
-    let a = c.args in
-    row_found a.«data» a.geometry a.y c.check_row.ensures c.in-Ok.is refl refl

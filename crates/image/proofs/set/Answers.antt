@@ -1,7 +1,7 @@
 -- `set` writes the pixel's byte and no other, or passes the refusal on. Assumes nothing.
 use native.Mathlib.Omega.{arith}
 use lib.ListN.{length}
-use Rattle.image.proofs.Places.{pixel_place_lem, set_done}
+use Rattle.image.proofs.Places.{pixel_place_lem}
 use Prim.Native.Nat.{◌+◌, ◌*◌, ◌<◌}
 use Rattle.image.proofs.set.Goals as goal
 use Rattle.image.proofs.set.Goals.{In_ok-g}
@@ -22,8 +22,3 @@ overflow_add-data c = omega (arith, place (goal.at.overflow_add-data c).In_ok-g)
 
 pub bounds-data-y : goal.bounds-data-y
 bounds-data-y c = place (goal.at.bounds-data-y c).In_ok-g
-
-pub returns : goal.returns
-returns c =
-    let a = c.args in
-    set_done a.«data».now a.geometry a.x a.y c.check_pixel.ensures a.value c.in_ok-g.was

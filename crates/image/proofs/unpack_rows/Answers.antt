@@ -1,10 +1,6 @@
-use native.Mathlib.Omega.{arith}
-use Prim.Native.Nat.{◌+◌, ◌*◌, ◌≤◌}
-use mathlib.Core.Path.{◌≡◌, refl, sym, ◌∙◌}
-use lib.ListN.{length}
 use Rattle.image.specs.LayoutLaws.{row_within}
-use Rattle.image.specs.PaintRows.{rows_start, rows_same, rows_done, row_fits, part_long, rows_next}
-use Rattle.image.proofs.Planes.{from_fits, from_long, from_pixel}
+use Rattle.image.specs.PaintRows.{rows_start, rows_next}
+use Rattle.image.proofs.Planes.{from_long, from_pixel}
 use Rattle.image.proofs.unpack_rows.Goals as goal
 use Rattle.image.proofs.unpack_rows.Goals.{In-loop-y}
 

@@ -1,5 +1,5 @@
 -- `unpack_rows` paints the rows one after another: the first y rows of the destination are painted. Assumes nothing.
-use Prim.Native.Nat.{◌-◌, ◌*◌}
+use Prim.Native.Nat.{◌*◌}
 use Rattle.image.specs.Plane.{part}
 use Rattle.image.specs.PaintRows.{RowsPainted}
 use Rattle.image.proofs.unpack_rows.Given as goal

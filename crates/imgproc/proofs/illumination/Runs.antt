@@ -18,30 +18,21 @@ use Rattle.image.specs.Copy.{Packs, Unpacks}
 use Rattle.imgproc.specs.declared.illumination.BackgroundDivideConfig.{BackgroundDivideConfig}
 use Rattle.imgproc.specs.declared.ImgProcError.TheVariants.{InvalidConfiguration, WorkspaceTooSmall}
 use Rattle.imgproc.specs.declared.morphology.tally.Tally.{Tally}
-use Rattle.imgproc.specs.Tallies.{Stands, room_fresh, raised_fresh}
+use Rattle.imgproc.specs.Tallies.{Stands, raised_fresh}
 use Rattle.imgproc.specs.Morphology.{closed}
-use Rattle.imgproc.specs.Sweeps.{TwiceReady, TwiceMorphed}
+use Rattle.imgproc.specs.Sweeps.{TwiceMorphed}
 use Rattle.imgproc.specs.Refusals.{first, refused_if, division_settings, element_and_room}
 use Rattle.imgproc.specs.Calls.{Loan, Works, Paired}
 use Rattle.imgproc.specs.Division.{quotient, divided_by, divided, division, PlaneDivided, FlattenReady, Flattened, DivideReady}
-use Rattle.image.specs.LayoutLaws.{area_small}
 use Rattle.image.specs.CopyLaws.{packs_plane}
 use Rattle.imgproc.proofs.Serving.{unpacked_works}
-use Rattle.imgproc.proofs.morphology.Runs.{first_to_second, twice_ready}
+use Rattle.imgproc.proofs.morphology.Runs.{first_to_second}
 
 -- ---- packed, closed, divided
 module _ {tally : Tally} {src : List ℕ} {g : Geometry} {d : BackgroundDivideConfig} {ws : List ℕ} (kept : Kept (length src) g)
     (ready : FlattenReady tally g d ws) {r : Answer Bare} {first : List ℕ} (pack : Packs src g 0 ws r first) where
   plane : (length first ≡ length ws) × (part 0 (g.width * g.height) first ≡ picture src g)
   plane = packs_plane kept (omega (arith, ready.fits)) pack
-
-  pub close_ready : TwiceReady tally first (first_to_second g.width g.height) d.structuring_element
-  close_ready = twice_ready (record {
-    fits = omega (arith, plane.0, ready.fits);
-    kernel = ready.kernel;
-    wide = kept.wide;
-    room = ready.room;
-  })
 
   module _ {raised : Tally} {second : List ℕ}
       (close : TwiceMorphed closed tally first (first_to_second g.width g.height) d.structuring_element raised second) where
@@ -82,16 +73,6 @@ module _ {tally : Tally} {src : List ℕ} {g : Geometry} {d : BackgroundDivideCo
 
 -- ---- and painted
 module _ {lent : Loan BackgroundDivideConfig} (ready : DivideReady lent) {tally : Tally} (fresh : Stands tally 0) where
-  pub flatten_ready : FlattenReady tally lent.source lent.settings lent.workspace
-  flatten_ready =
-      let area = area_small ready.pair.from in
-      record {
-        kernel = ready.kernel;
-        floor = ready.floor;
-        fits = ready.fits;
-        room = room_fresh fresh (omega arith);
-      }
-
   pub divide_works : {raised : Tally} {ws dst : List ℕ} {r : Answer Bare}
       → Flattened tally lent.src lent.source lent.settings lent.workspace raised ws
       → Unpacks ws (lent.source.width * lent.source.height) lent.dst lent.target r dst

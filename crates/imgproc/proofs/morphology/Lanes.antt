@@ -37,9 +37,6 @@ line_before w y l = (ap (λ (n : ℕ). n * w) (omega arith) ∙ add-mul (y - 1) 
 
 -- ---- what is kept
 
-pub outside_none : (at : ℕ) (d : List ℕ) → Outside at 0 d d
-outside_none at d = record { long = refl; before = λ j l. refl; after = λ j l. refl }
-
 pub outside_at : {at n : ℕ} {d d' : List ℕ} (j : ℕ) → Outside at n d d' → Off at n j → get_or d' j 0 ≡ get_or d j 0
 outside_at j o p = ⊎_elim (o.before j) (o.after j) p.off
 
@@ -53,9 +50,6 @@ outside_more a m p q l h = record {
 
 -- ---- one row of lanes, sample by sample
 module _ (at : ℕ) (g : ℕ → ℕ) (d : List ℕ) where
-  pub row_none : Rowed at 0 g d d
-  row_none = record { each = λ x l. absurd (not-suc-le-zero l); rest = outside_none at d }
-
   pub row_more : (x v : ℕ) (a : List ℕ) → Rowed at x g d a → at + x < length a → v ≡ g x → Rowed at (x + 1) g d (set a (at + x) v)
   row_more x v a h l e = record {
     each = λ j m.
@@ -73,9 +67,6 @@ module _ (at : ℕ) (g : ℕ → ℕ) (d : List ℕ) where
   -- what lies apart from the row is as it was
   pub row_apart : {from n w : ℕ} (x j : ℕ) (a : List ℕ) → Rowed at x g d a → Apart from n at w → x ≤ w → from ≤ j → j < from + n → get_or a j 0 ≡ get_or d j 0
   row_apart x j a h p l m q = ⊎_elim (λ s. h.rest.before j (omega arith)) (λ s. h.rest.after j (omega arith)) p.clear
-
-pub row_all : {at x w : ℕ} {g : ℕ → ℕ} {d a : List ℕ} → Rowed at x g d a → x ≤ w → w ≤ x → Rowed at w g d a
-row_all {at} {x} {w} {g} {d} {a} h l m = subst (λ (n : ℕ). Rowed at n g d a) (omega arith) h
 
 -- ---- the lines of a plane that are done: P holds at each of their samples, and nothing outside the plane has changed
 pub record Done (P : ℕ → ℕ → ℕ → Type 0) (D : ℕ → Type 0) (to w h : ℕ) (d d' : List ℕ) : Type 0 where
@@ -132,14 +123,6 @@ pub record Upward (P : ℕ → ℕ → ℕ → Type 0) (test : ℕ → Bool) (to
   pub counted : Raised tally (met * w) raised
 
 module _ {P : ℕ → ℕ → ℕ → Type 0} {test : ℕ → Bool} {to w h : ℕ} {d : List ℕ} {tally : Tally} where
-  pub up_none : Upward P test to w h h d d tally tally
-  up_none = record {
-    lines = done_none P to w h d (λ i m. omega arith);
-    met = 0;
-    ahead = omega arith;
-    counted = raised_none (omega arith);
-  }
-
   pub up_more : {y : ℕ} {c c' : Tally} (g : ℕ → ℕ) {a a' : List ℕ} → Upward P test to w h y d a tally c → 0 < y → y ≤ h → Rowed (to + (y - 1) * w) w g a a'
       → ((x : ℕ) → x < w → P x (y - 1) (g x)) → Raised c (bit (test (y - 1)) * w) c' → Upward P test to w h (y - 1) d a' tally c'
   up_more {y} g s l u r each e = record {

@@ -11,14 +11,14 @@ use Rattle.image.specs.Plane.{part}
 use Rattle.image.specs.PlaneLaws.{in_plane, length_part, get_d_part}
 use Rattle.imgproc.specs.declared.morphology.tally.Tally.{Tally}
 use Rattle.imgproc.specs.declared.morphology.sweeps.Planes.{Planes}
-use Rattle.imgproc.specs.Tallies.{Raised, HasRoom, raised_none, raised_twice, room_part, room_left}
+use Rattle.imgproc.specs.Tallies.{Raised, HasRoom, raised_twice, room_part, room_left}
 use Rattle.imgproc.specs.Extremes.{Extreme, Between, Inside}
 use Rattle.imgproc.specs.Reach.{reach_box, reach_from, reach_to, line_walks}
 use Rattle.imgproc.specs.Walks.{cases, lines_walks_le}
-use Rattle.imgproc.specs.Compared.{Before, extreme}
-use Rattle.imgproc.specs.Morphology.{swept_rect, swept}
+use Rattle.imgproc.specs.Compared.{Before}
+use Rattle.imgproc.specs.Morphology.{swept}
 use Rattle.imgproc.specs.MorphologyLaws.{reach_in, is_swept}
-use Rattle.imgproc.specs.Sweeps.{lane, Off, Reached, area, planes_in_place, strip_of, transposed, Beside, LinesSwept, Transposed, SweepReady, RowsSwept, ColumnsSwept, MorphReady, Morphed, PairReady, PairMorphed}
+use Rattle.imgproc.specs.Sweeps.{lane, Off, Reached, area, planes_in_place, strip_of, transposed, Beside, LinesSwept, Transposed, SweepReady, RowsSwept, ColumnsSwept, MorphReady, Morphed, PairReady}
 use Rattle.imgproc.proofs.morphology.sweeps.Blocks.{order, seen}
 use Rattle.imgproc.proofs.morphology.Lanes.{off, apart_within, outside_at, line_order}
 
@@ -57,15 +57,6 @@ pub record Sweeping (tally : Tally) (d : List ℕ) (p : Planes) (k : ℕ) (least
   pub counted : Raised tally (y * line_walks k p.width) raised
 
 module _ {tally : Tally} {d : List ℕ} {p : Planes} {k : ℕ} {least : Bool} (ready : SweepReady tally d p k) where
-  pub sweeping_none : Sweeping tally d p k least 0 tally d
-  sweeping_none = record {
-    inside = omega arith;
-    each = λ x i l m. absurd (omega arith);
-    ahead = λ j l m. refl;
-    kept = record { long = refl; same = λ j p q. refl };
-    counted = raised_none (omega arith);
-  }
-
   module _ {y : ℕ} (n : ℕ) {c : Tally} {a : List ℕ} (s : Sweeping tally d p k least y c a) (fits : y + n ≤ p.height) where
     size : y * p.width + p.width * n ≤ area p
     size = let m : (y + n) * p.width ≤ p.height * p.width = mul-le-mul_right p.width fits in omega arith
@@ -230,13 +221,3 @@ module _ {one : Bool} {kw kh : ℕ} {p : Planes} {t a : Tally} {d e : List ℕ} 
         wide = asked.wide;
         room = room;
       }
-
-  pub pair_morphed : {two : Bool} {r : Tally} {g : List ℕ} → Morphed a e (planes_in_place p) kw kh two r g → PairMorphed t d p kw kh one two r g
-  pair_morphed {two} again = record {
-    leaves = again.leaves ∙ ap (swept_rect (extreme two) kw kh p.width p.height) once.leaves;
-    counted = raised_twice once.counted again.counted (omega arith);
-    kept = record {
-      long = again.kept.long ∙ once.kept.long;
-      same = λ j u v. again.kept.same j u v ∙ once.kept.same j u v;
-    };
-  }

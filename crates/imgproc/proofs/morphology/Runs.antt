@@ -2,7 +2,6 @@
 -- picture. Assumes nothing.
 use mathlib.Core.Path.{◌≡◌, ap, ◌∙◌}
 use mathlib.Core.List.{List}
-use mathlib.Core.Logic.{inl, inr}
 use Prim.Native.Nat.{ℕ, ◌*◌}
 use native.Mathlib.Omega.{arith}
 use lib.ListN.{length}
@@ -11,38 +10,15 @@ use Rattle.image.specs.Plane.{picture, part}
 use Rattle.image.specs.Copy.{Packs, Unpacks}
 use Rattle.imgproc.specs.declared.morphology.tally.Tally.{Tally}
 use Rattle.imgproc.specs.declared.morphology.sweeps.Planes.{Planes}
-use Rattle.imgproc.specs.Tallies.{room_part}
 use Rattle.imgproc.specs.declared.morphology.Operation.{Operation}
-use Rattle.imgproc.specs.Sweeps.{MorphReady, TwiceReady}
-use Rattle.imgproc.specs.MorphologyCalls.{operated, morphology, OperateReady, CountReady, Counts, RunReady}
+use Rattle.imgproc.specs.MorphologyCalls.{operated, morphology, Counts, RunReady}
 use Rattle.imgproc.specs.Calls.{Loan, Works}
-use Rattle.image.specs.LayoutLaws.{area_small}
 use Rattle.image.specs.CopyLaws.{packs_plane}
 use Rattle.imgproc.proofs.Serving.{unpacked_works}
 
 -- ---- an operation reads the first plane, writes the second, and has its scratch after both
 abbrev pub first_to_second : ℕ → ℕ → Planes
 first_to_second w h = record { from = 0; to = w * h; spare = 2 * (w * h); width = w; height = h }
-
-pub once_ready : {t : Tally} {d : List ℕ} {k w h : ℕ} → OperateReady t d k w h → MorphReady t d (first_to_second w h) k k
-once_ready p = record {
-  rows = record {
-    source = omega (arith, p.fits);
-    target = omega (arith, p.fits);
-    scratch = omega (arith, p.fits);
-    source_apart = record { clear = inl (omega arith) };
-    target_apart = record { clear = inl (omega arith) };
-    planes = inr (record { clear = inl (omega arith) });
-    kernel = p.kernel;
-    room = room_part p.room (omega arith);
-  };
-  columns = p.kernel;
-  wide = p.wide;
-  room = room_part p.room (omega arith);
-}
-
-pub twice_ready : {t : Tally} {d : List ℕ} {k w h : ℕ} → OperateReady t d k w h → TwiceReady t d (first_to_second w h) k
-twice_ready p = record { rows = (once_ready p).rows; wide = p.wide; room = p.room }
 
 -- ---- packed, operated on, painted
 module _ {lent : Loan ℕ} (ready : RunReady lent) {r : Answer Bare} {first : List ℕ}
@@ -55,16 +31,6 @@ module _ {lent : Loan ℕ} (ready : RunReady lent) {r : Answer Bare} {first : Li
 
   plane : (length first ≡ length lent.workspace) × (part 0 (w * h) first ≡ picture lent.src lent.source)
   plane = packs_plane ready.pair.from (omega (arith, ready.fits)) pack
-
-  pub run_count_ready : CountReady first lent.settings w h
-  run_count_ready =
-      let area = area_small ready.pair.from in
-      record {
-        fits = omega (arith, plane.0, ready.fits);
-        kernel = ready.kernel;
-        wide = ready.pair.from.wide;
-        room = omega arith;
-      }
 
   pub run_works : {operation : Operation} {raised : Tally} {second dst : List ℕ} {r' : Answer Bare}
       → Counts operation first lent.settings w h raised second

@@ -1,23 +1,19 @@
 -- The work of an accepted reading, stage by stage, and what it comes to: the counts, the marks, the comparisons. Assumes nothing.
-use mathlib.Core.Path.{◌≡◌, refl, sym, ap, ap₂, ◌∙◌}
+use mathlib.Core.Path.{◌≡◌, ap, ap₂, ◌∙◌}
 use mathlib.Core.Bool.{Bool}
 use mathlib.Core.List.{List}
-use Prim.Native.Nat.{ℕ, ◌+◌, ◌-◌, ◌*◌}
-use native.Mathlib.Nat.{mul-add, mul-one}
+use Prim.Native.Nat.{ℕ, ◌*◌}
 use native.Mathlib.Omega.{arith}
 use lib.ListN.{length}
 use Rattle.image.specs.declared.Geometry.{Geometry}
-use Rattle.image.specs.Layout.{Kept}
-use Rattle.image.specs.LayoutLaws.{area_small}
 use Rattle.image.specs.Plane.{picture, painted_on, part}
 use Rattle.imgproc.specs.declared.reading.config.ReadingConfig.{ReadingConfig}
 use Rattle.imgproc.specs.declared.reading.ReadingCounts.{ReadingCounts}
 use Rattle.imgproc.specs.declared.reading.judging.Judged.{Judged}
 use Rattle.imgproc.specs.declared.reading.judging.Judgement.{Judgement}
 use Rattle.imgproc.specs.declared.morphology.tally.Tally.{Tally}
-use Rattle.imgproc.specs.Tallies.{Stands, stands_as, room_fresh, raised_fresh}
+use Rattle.imgproc.specs.Tallies.{Stands, stands_as, raised_fresh}
 use Rattle.imgproc.specs.Walks.{sweep_walks_lem}
-use Rattle.imgproc.specs.Grid.{skips}
 use Rattle.imgproc.specs.Reading.{
   ReadingNumbers,
   ReadingLent,
@@ -33,28 +29,11 @@ use Rattle.imgproc.specs.Reading.{
   marked,
   marks_at,
 }
-use Rattle.imgproc.specs.ReadingSteps.{marked_over, OpenReady, Opened, MarkReady, Marks, JudgeRoom, PictureJudged, ReadReady, ReadDone}
+use Rattle.imgproc.specs.ReadingSteps.{marked_over, Opened, Marks, PictureJudged, ReadReady, ReadDone}
 
 -- the packed geometry of a picture
 abbrev pub packed_as : Geometry → Geometry
 packed_as g = record { width = g.width; height = g.height; stride = g.width }
-
--- a packed picture lies in its w × h bytes
-packed_kept : {len : ℕ} {g : Geometry} → Kept len g → Kept (g.width * g.height) (packed_as g)
-packed_kept {len} {g} k =
-    let e : g.height - 1 + 1 ≡ g.height = omega (arith, k.high) in
-    let m : g.width * g.height ≡ g.width * (g.height - 1) + g.width =
-    ap (λ (n : ℕ). g.width * n) (sym e)
-    ∙ mul-add g.width (g.height - 1) 1
-    ∙ ap (λ (n : ℕ). g.width * (g.height - 1) + n) (mul-one g.width) in
-    record {
-      wide = k.wide;
-      high = k.high;
-      stride = omega arith;
-      fits = omega arith;
-      small_width = k.small_width;
-      small_height = k.small_height;
-    }
 
 -- the three counts and the tally, one by one, and their numbers
 abbrev pub counts_of : ℕ → ℕ → ℕ → Tally → ReadingCounts
@@ -70,49 +49,11 @@ module _ {lent : ReadingLent} (ready : ReadReady lent) {tally : Tally} (fresh : 
   abbrev s : ReadingConfig
   s = lent.settings
 
-  pub open_stage : OpenReady tally g s lent.bytes
-  open_stage =
-      let a = area_small ready.pair.from in
-      record {
-        element = ready.settings.element;
-        floor = ready.settings.floor;
-        kernel = ready.settings.kernel;
-        fits = omega (arith, ready.bytes_fit);
-        room = room_fresh fresh (omega arith);
-      }
-
   abbrev marks_place : ℕ
   marks_place = marks_at g.width g.height
 
   module _ {raised : Tally} {bytes₁ : List ℕ} (o : Opened tally lent.src g s lent.bytes raised bytes₁) where
-    pub mark_stage : MarkReady (packed_as g) s marks_place bytes₁ lent.u64s
-    mark_stage = record {
-      layout = packed_kept ready.pair.from;
-      tight = refl;
-      tile_width = ready.settings.tile_width;
-      tile_height = ready.settings.tile_height;
-      behind = omega arith;
-      bytes_fit = omega (arith, o.long, ready.bytes_fit);
-      u64s_fit = omega (arith, ready.u64s_fit);
-    }
-
     module _ {bytes₂ u64s₂ : List ℕ} (m : Marks (packed_as g) s marks_place bytes₁ lent.u64s bytes₂ u64s₂) where
-      pub judge_stage : JudgeRoom (packed_as g) s marks_place bytes₂ u64s₂
-      judge_stage = record {
-        marks = record {
-          layout = packed_kept ready.pair.from;
-          tight = refl;
-          tile_width = ready.settings.tile_width;
-          tile_height = ready.settings.tile_height;
-          behind = omega arith;
-          bytes_fit = omega (arith, m.bytes_long, o.long, ready.bytes_fit);
-          u64s_fit = omega (arith, m.u64s_long, ready.u64s_fit);
-        };
-        skips = m.skips ∙ ap (skips s.grid g.width g.height) (sym m.opened);
-        tables_fit = omega (arith, m.u64s_long, ready.u64s_fit);
-        settings = ready.settings.sauvola;
-      }
-
       -- what was judged is the opened picture
       source : List ℕ
       source = picture lent.src g

@@ -1,5 +1,5 @@
 -- The stages of a reading in its workspaces: flattened and opened, and the tiles' marks. Assumes nothing.
-use mathlib.Core.Path.{◌≡◌, refl, sym, ap, ap₂, ◌∙◌, subst}
+use mathlib.Core.Path.{◌≡◌, sym, ap, ap₂, ◌∙◌}
 use mathlib.Core.List.{List}
 use mathlib.Core.Logic.{inl, inr}
 use Prim.Native.Nat.{ℕ, ◌+◌, ◌*◌, ◌/◌, ◌%◌, ◌≤◌, ◌<◌}
@@ -7,35 +7,25 @@ use native.Mathlib.Omega.{arith}
 use lib.ListN.{length, take}
 use lib.Seq.{length-take-le}
 use Rattle.image.specs.declared.Geometry.{Geometry}
-use Rattle.image.specs.Layout.{Kept}
 use Rattle.image.specs.Plane.{part, overwritten}
 use Rattle.image.specs.PlaneLaws.{length-tabulate, length-overwritten, part_before, part_overwritten}
 use Rattle.image.specs.Views.{picture_again}
 use Rattle.imgproc.specs.declared.reading.config.ReadingConfig.{ReadingConfig}
 use Rattle.imgproc.specs.declared.morphology.tally.Tally.{Tally}
 use Rattle.imgproc.specs.declared.morphology.sweeps.Planes.{Planes}
-use Rattle.imgproc.specs.Tallies.{raised_twice, room_part, room_left}
+use Rattle.imgproc.specs.Tallies.{room_left}
 use Rattle.imgproc.specs.Fold.{bit}
 use Rattle.imgproc.specs.Walks.{lines_walks_le}
-use Rattle.imgproc.specs.Morphology.{opened}
-use Rattle.imgproc.specs.Sweeps.{TwiceReady, TwiceMorphed}
-use Rattle.imgproc.specs.Division.{FlattenReady, Flattened}
+use Rattle.imgproc.specs.Sweeps.{TwiceReady}
+use Rattle.imgproc.specs.Division.{Flattened}
 use Rattle.imgproc.specs.Grid.{tiles_x_of, tiles_y_of, skip_of, skips}
 use Rattle.imgproc.specs.Tiles.{Sized, GatherLent, GatherReady, Gathers, each_tile, skip_by}
-use Rattle.imgproc.specs.ReadingSteps.{OpenReady, Opened, MarkReady, Marks}
+use Rattle.imgproc.specs.ReadingSteps.{OpenReady, MarkReady, Marks}
 use Rattle.imgproc.proofs.grid.bytes.Tables.{skips_are}
 
 -- ---- flattened and opened
 module _ {tally : Tally} {g : Geometry} {s : ReadingConfig} {ws : List ℕ} (wide : 0 < g.width)
     (ready : OpenReady tally g s ws) where
-  pub flat_ready : FlattenReady tally g s.division ws
-  flat_ready = record {
-    kernel = ready.element;
-    floor = ready.floor;
-    fits = ready.fits;
-    room = room_part ready.room (omega arith);
-  }
-
   module _ {src : List ℕ} {raised : Tally} {first : List ℕ} (flat : Flattened tally src g s.division ws raised first) where
     -- the planes of the opening: from the second back to the first
     abbrev pub second_to_first : Planes
@@ -60,22 +50,10 @@ module _ {tally : Tally} {g : Geometry} {s : ReadingConfig} {ws : List ℕ} (wid
           room = room_left ready.room flat.counted (omega arith);
         }
 
-    pub opened_is : {r : Tally} {second : List ℕ}
-        → TwiceMorphed opened raised first second_to_first s.opening_kernel r second
-        → Opened tally src g s ws r second
-    opened_is o = record {
-      leaves = o.leaves ∙ ap (opened s.opening_kernel g.width g.height) flat.leaves;
-      counted = raised_twice flat.counted o.counted refl;
-      long = o.kept.long ∙ flat.long;
-    }
-
 -- ---- the tiles' marks
 module _ {g : Geometry} {s : ReadingConfig} {at : ℕ} {bytes u64s : List ℕ} (ready : MarkReady g s at bytes u64s) where
   pub prefix_long : length (take (g.width * g.height) bytes) ≡ g.width * g.height
   prefix_long = length-take-le (g.width * g.height) bytes (omega (arith, ready.behind, ready.bytes_fit))
-
-  pub prefix_kept : Kept (length (take (g.width * g.height) bytes)) g
-  prefix_kept = subst (λ (m : ℕ). Kept m g) (sym prefix_long) ready.layout
 
   pub sized : Sized s.grid g.width g.height
   sized = record {

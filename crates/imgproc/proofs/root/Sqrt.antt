@@ -82,9 +82,6 @@ module _ (L Y n r c : ℕ) (l_pos : 0 < L) (y_pos : 0 < Y) (h : IsRoot (n * (2 *
   abbrev D : ℕ
   D = L * (2 * (2 * Y))
 
-  d_pos : 0 < D
-  d_pos = mul-pos l_pos (omega arith)
-
   c_small : c ≤ 1
   c_small = go goes
     where

@@ -1,10 +1,6 @@
 -- `divide_picture` flattens with a tally of its own and paints; the copy is never refused. Assumes nothing.
-use Rattle.imgproc.proofs.illumination.Runs.{flatten_ready, divide_works}
+use Rattle.imgproc.proofs.illumination.Runs.{divide_works}
 use Rattle.imgproc.proofs.illumination.divide_picture.Goals as goal
-
-pub flatten-tally-requires : goal.flatten-tally-requires
-flatten-tally-requires c =
-    flatten_ready c.requires c.start.ensures
 
 pub returns : goal.returns
 returns c =

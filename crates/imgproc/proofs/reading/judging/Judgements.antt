@@ -77,9 +77,6 @@ module _ {o : List ℕ} {g : Geometry} {sk ws : List ℕ} {at : ℕ} {s : Readin
       ∙ get_d_tabulate (λ t. bit (skip (t % wide) (t / wide))) (wide * tiles_y_of s.grid g.height) tile inside
       ∙ ap₂ (λ (i j : ℕ). bit (skip i j)) (digits_mod row across) (digits_div row across)
 
-  pub place_within : y * g.width + x < length o
-  place_within = rw ready.whole (in_plane g.width g.height x y X Y)
-
   pub is_skipped_lem : (get_or sk tile 0 ≡ 0 → ⊥) → Skipped ≡ judged_over s g.width g.height o x y
   unfolding judged_over
   is_skipped_lem n = rw (bit_one (skip (x / s.grid.tile_width) (y / s.grid.tile_height)) (λ e. n (mark ∙ e)))

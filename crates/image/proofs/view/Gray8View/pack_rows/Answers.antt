@@ -1,8 +1,7 @@
-use native.Mathlib.Omega.{arith}
 use Prim.Native.Nat.{◌+◌, ◌*◌, ◌≤◌}
 use mathlib.Core.Path.{sym, ◌∙◌}
 use lib.ListN.{length}
-use Rattle.image.specs.FillLaws.{fill_start, fill_same, fill_done, fill_fits, fill_next, lent_row}
+use Rattle.image.specs.FillLaws.{fill_start, fill_done, fill_fits, fill_next, lent_row}
 use Rattle.image.specs.RowLaws.{row_long, row_pixel}
 use Rattle.image.specs.Plane.{pixel, packed}
 use Rattle.image.proofs.view.Gray8View.pack_rows.Goals as goal

@@ -1,5 +1,4 @@
 -- `pack_rows` packs the rows one after another: the first y rows stand in the workspace. Assumes nothing.
-use Prim.Native.Nat.{◌-◌}
 use Rattle.image.specs.FillLaws.{Filled}
 use Rattle.image.specs.Plane.{pixel}
 use Rattle.image.proofs.view.Gray8View.pack_rows.Given as goal

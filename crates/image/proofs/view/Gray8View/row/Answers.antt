@@ -1,5 +1,5 @@
 -- `row` hands out the row's own bytes where they stand, or an empty part. Assumes nothing.
-use Rattle.std.proofs.Common.{refl, length, sym}
+use Rattle.std.proofs.Common.{refl, sym}
 use Rattle.image.specs.LayoutLaws.{row_asked}
 use Rattle.image.proofs.Places.{row_found}
 use Rattle.image.proofs.view.Gray8View.row.Goals as goal

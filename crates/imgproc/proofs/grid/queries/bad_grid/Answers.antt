@@ -2,7 +2,6 @@
 use mathlib.Core.Path.{◌≡◌, sym, ap, ◌∙◌}
 use mathlib.Core.Bool.{true, false, not}
 use Prim.Native.Nat.{ℕ}
-use native.Mathlib.Nat.{pos_of_ne-zero}
 use lib.Dec.{eqb}
 use borrow.Author.Tests.{eq-eqb, ne_eqb}
 use Rattle.imgproc.specs.GridCalls.{bad_side, bad_grid}
@@ -38,18 +37,12 @@ returns-then-grid-eq0-2 c =
     let h = height-fine (goal.at.returns-then-grid-eq0-2 c).Else-bad_side-2 in
     let w = width-fine (goal.at.returns-then-grid-eq0-2 c).Else-bad_side in simp (w, h, ne_eqb _ _ c.if-grid-eq0.false, eq-eqb _ _ c.if-grid-eq0-2.true)
 
-pub tiles_along-requires : goal.tiles_along-requires
-tiles_along-requires c = pos_of_ne-zero c.if-grid-eq0.false
-
 pub returns-then-grid-tiles_along : goal.returns-then-grid-tiles_along
 unfolding bad_grid
 returns-then-grid-tiles_along c =
     let h = height-fine (goal.at.returns-then-grid-tiles_along c).Else-bad_side-2 in
     let w = width-fine (goal.at.returns-then-grid-tiles_along c).Else-bad_side in
     simp (w, h, ne_eqb _ _ c.if-grid-eq0.false, ne_eqb _ _ c.if-grid-eq0-2.false, ne_eqb _ _ (λ e. c.if-grid-tiles_along.true (e ∙ sym c.tiles_along.ensures)))
-
-pub tiles_along-requires-2 : goal.tiles_along-requires-2
-tiles_along-requires-2 c = pos_of_ne-zero c.if-grid-eq0-2.false
 
 pub returns : goal.returns
 unfolding bad_grid

@@ -9,10 +9,6 @@ pub overflow_add-sum : goal.overflow_add-sum
 overflow_add-sum c =
     omega (arith, sums_small c.loop-sample.invariant (λ k. omega (arith, c.type_inv.samples k)) c.from-value.ensures)
 
-pub overflow_mul-sum_sq : goal.overflow_mul-sum_sq
-overflow_mul-sum_sq c =
-    omega (arith, sums_small c.loop-sample.invariant (λ k. omega (arith, c.type_inv.samples k)) c.from-value.ensures)
-
 pub overflow_add-sum_sq : goal.overflow_add-sum_sq
 overflow_add-sum_sq c =
     omega (arith, sums_small c.loop-sample.invariant (λ k. omega (arith, c.type_inv.samples k)) c.from-value.ensures)
