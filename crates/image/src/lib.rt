@@ -164,16 +164,15 @@ pub fn set(
 }
 
 // Hands out row y, the caller's own bytes where they stand; an empty part where `check_row` refuses, since the call is
-// promised not to fail. It and `row_mut` stand side by side, as `&` and `&mut` do everywhere: nothing is generic over them.
+// promised not to fail. It and `row_mut` stand side by side, as `&` and `&mut` do everywhere: nothing is generic over
+// them.
 pub fn row(data: &[u8], geometry: Geometry, y: usize) -> &[u8]
     ensures { Hands «data».entry geometry y result }
 {
-    let Ok(g) = check_row(data.len(), geometry, y) else {
+    let Ok(view) = Gray8View::new(data, geometry) else {
         return &data[0..0];
     };
-    let from = y * g.stride;
-    let to = from + g.width;
-    &data[from..to]
+    view.row(y)
 }
 
 // Hands out row y of a destination to be written; an empty part where `check_row` refuses.
@@ -188,8 +187,9 @@ pub fn row_mut(data: &mut [u8], geometry: Geometry, y: usize) -> &mut [u8]
     &mut data[start..end]
 }
 
-// Copies the packed plane that starts at `at` of the workspace into the rows of a picture. A destination and its geometry
-// stay two parameters: what is left behind a `&mut` in a struct can only be said by a starred clause.
+// Copies the packed plane that starts at `at` of the workspace into the rows of a picture. A destination and its
+// geometry stay two parameters, here and wherever one is passed on: the borrow checker covers no struct with a `&mut`
+// slice inside that is passed on by value, and were it lent, each contract would have to say that both stay.
 fn unpack_rows(workspace: &[u8], at: usize, dst: &mut [u8], geometry: Geometry)
     requires { Kept (length dst.old) geometry
         × (at + geometry.width * geometry.height ≤ length workspace.now) }

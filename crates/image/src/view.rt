@@ -8,7 +8,7 @@ ghost use Rattle.image.specs.Plane.{picture, overwritten};
 
 use crate::{CopyError, Geometry, LumaError, validate_layout};
 
-// A picture to be read, whose layout was checked once and for all.
+// A picture to be read. That its slice holds it is a fact of the type, so nobody checks its layout again.
 #[derive(Clone, Copy)]
 pub struct Gray8View<'a> {
     pub pixels: &'a [u8],
@@ -28,6 +28,7 @@ impl<'a> Gray8View<'a> {
     }
 
     // Hands out row y, the caller's own bytes where they stand; an empty part where the picture has no such row.
+    // `image::row` hands it on and is promised not to fail, so an `Option` would be taken apart there and at each call.
     pub fn row(self, y: usize) -> &'a [u8]
         ensures { Hands self.entry.pixels self.entry.geometry y result }
     {
