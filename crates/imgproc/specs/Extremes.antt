@@ -33,6 +33,10 @@ Low a b = a ≤ b
 abbrev pub High : ℕ → ℕ → Type 0
 High a b = b ≤ a
 
+-- of two samples one is at most the other
+le_or : (a b : ℕ) → (a ≤ b) ⊎ (b ≤ a)
+le_or a b = ⊎_elim (λ p. inl (omega arith)) (λ q. inr q) (cases_lt a b)
+
 pub lowest : Order Low min
 lowest = record {
   same = le_refl;
@@ -40,7 +44,7 @@ lowest = record {
   anti = λ p q. le_antisymm p q;
   left = min-le_left;
   right = min-le_right;
-  one = λ a b. ⊎_elim (λ p. inl (omega arith)) (λ q. inr (omega arith)) (cases_lt a b);
+  one = λ a b. ⊎_elim (λ p. inl (omega arith)) (λ q. inr (omega arith)) (le_or a b);
 }
 
 pub highest : Order High max
@@ -50,7 +54,7 @@ highest = record {
   anti = λ p q. le_antisymm q p;
   left = le-max_left;
   right = le-max_right;
-  one = λ a b. ⊎_elim (λ p. inr (omega arith)) (λ q. inl (omega arith)) (cases_lt a b);
+  one = λ a b. ⊎_elim (λ p. inr (omega arith)) (λ q. inl (omega arith)) (le_or a b);
 }
 
 -- i lies from a to b, both ends among them; and p in a box

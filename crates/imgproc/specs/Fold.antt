@@ -1,6 +1,7 @@
 -- The one fold that gives every minimum, maximum, sum and count, along a line and over a box of pixels.
 -- Definitions only.
 use Rattle.std.specs.Prelude.{ℕ, zero, suc, ◌+◌, ◌-◌, Bool, true, false}
+use Rattle.imgproc.specs.declared.reach.Area.{Area}
 
 -- 1 where a test holds, else 0
 abbrev pub bit : Bool → ℕ
@@ -17,12 +18,9 @@ unfoldable pub fold_over : (ℕ → ℕ → ℕ) → (ℕ → ℕ) → ℕ → �
 unfolding fold_from
 fold_over op f a b = fold_from op f a (b - a)
 
--- the columns left..right and the rows top..bottom of a picture
-pub record Box : Type 0 where
-  pub left : ℕ
-  pub right : ℕ
-  pub top : ℕ
-  pub bottom : ℕ
+-- the columns left..right and the rows top..bottom of a picture: the code's `Area`
+abbrev pub Box : Type 0
+Box = Area
 
 -- f over the pixels of a box, joined by op: `min` and `max` make it an extreme, `◌+◌` a sum
 unfoldable pub fold_box : (ℕ → ℕ → ℕ) → (ℕ → ℕ → ℕ) → Box → ℕ

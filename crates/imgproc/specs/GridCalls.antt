@@ -46,6 +46,10 @@ grid_settings g =
 abbrev pub tile_count : TileThresholdConfig → ℕ → ℕ → ℕ
 tile_count g w h = tiles_x_of g w * tiles_y_of g h
 
+-- tiles_x and tiles_y
+abbrev pub tile_counts : TileThresholdConfig → ℕ → ℕ → TileCounts
+tile_counts g w h = record { tiles_x = tiles_x_of g w; tiles_y = tiles_y_of g h }
+
 -- u64 workspace under 5t; threshold or skip buffer under t bytes
 abbrev pub grid_room : ℕ → ℕ → ℕ → ℕ → Conditions
 grid_room t room threshold_room skip_room =
@@ -95,10 +99,7 @@ build_conditions lent = build_conditions_by (grid_settings lent.settings) lent
 
 -- the tile counts of what was lent
 abbrev pub tiles_from : BuildLent → TileCounts
-tiles_from lent = record {
-  tiles_x = tiles_x_of lent.settings lent.source.width;
-  tiles_y = tiles_y_of lent.settings lent.source.height;
-}
+tiles_from lent = tile_counts lent.settings lent.source.width lent.source.height
 
 -- a build by a list of conditions: the first t bytes of both buffers are the picture's thresholds and skips, and every
 -- other byte is as it was

@@ -130,13 +130,17 @@ reading_bytes grid w h = marks_at w h + 2 * tile_count grid w h
 abbrev pub reading_u64s : TileThresholdConfig → ℕ → ℕ → ℕ
 reading_u64s grid w h = table_entries w h + 5 * tile_count grid w h
 
--- either workspace too short
-abbrev pub reading_room : Geometry → ReadingConfig → ℕ → ℕ → Conditions
-reading_room g s bytes u64s =
+-- either workspace too short for a picture and the tiles of a grid over it
+abbrev pub room_over : Geometry → TileThresholdConfig → ℕ → ℕ → Conditions
+room_over g grid bytes u64s =
     refused_if
-    (ltb bytes (reading_bytes s.grid g.width g.height)
-    || ltb u64s (reading_u64s s.grid g.width g.height))
+    (ltb bytes (reading_bytes grid g.width g.height)
+    || ltb u64s (reading_u64s grid g.width g.height))
     WorkspaceTooSmall
+
+-- and with a reading's settings
+abbrev pub reading_room : Geometry → ReadingConfig → ℕ → ℕ → Conditions
+reading_room g s bytes u64s = room_over g s.grid bytes u64s
 
 -- what a reading is lent
 pub record ReadingLent : Type 0 where

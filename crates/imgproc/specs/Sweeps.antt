@@ -6,20 +6,7 @@ use Rattle.imgproc.specs.declared.morphology.tally.Tally.{Tally}
 use Rattle.imgproc.specs.declared.morphology.sweeps.Planes.{Planes}
 use Rattle.imgproc.specs.Tallies.{Raised, HasRoom}
 use Rattle.imgproc.specs.Extremes.{Extreme, Between}
-use Rattle.imgproc.specs.Reach.{
-  low,
-  high,
-  radius,
-  reach_from,
-  reach_to,
-  walk,
-  forward_at,
-  backward_at,
-  join_at,
-  line_walks,
-  rect_walks,
-  sweep_walks,
-}
+use Rattle.imgproc.specs.Reach.{low, high, radius, reach_from, reach_to, walk, forward_at, backward_at, join_at, line_walks, rect_walks}
 use Rattle.imgproc.specs.Compared.{Before, extreme}
 use Rattle.imgproc.specs.Morphology.{swept_rect}
 
@@ -202,26 +189,14 @@ pub record PairReady (tally : Tally) (d : List ℕ) (p : Planes) (kw kh : ℕ) :
   pub once : MorphReady tally d p kw kh
   pub room : HasRoom tally (12 * area p)
 
--- two of them, in the orders `one` and `two`, leave at `to` what they make of the packed plane at `from`
+-- two of them, in the orders `one` and `two`, leave at `to` what they make of the packed plane at `from`: an opening
+-- where `one` alone is true, and a closing where `two` alone is
 pub record PairMorphed (tally : Tally) (d : List ℕ) (p : Planes) (kw kh : ℕ) (one two : Bool)
     (raised : Tally) (d' : List ℕ) : Type 0 where
   pub leaves : part p.to (area p) d' ≡
       swept_rect (extreme two) kw kh p.width p.height
       (swept_rect (extreme one) kw kh p.width p.height (part p.from (area p) d))
   pub counted : Raised tally (2 * rect_walks kw kh p.width p.height) raised
-  pub kept : Beside (3 * area p) p d d'
-
--- an opening or a closing asks what a sweep asks, a plane that is not empty, and room in the tally for all four sweeps
-pub record TwiceReady (tally : Tally) (d : List ℕ) (p : Planes) (k : ℕ) : Type 0 where
-  pub rows : SweepReady tally d p k
-  pub wide : 0 < p.width
-  pub room : HasRoom tally (12 * area p)
-
--- an opening (`made` is `opened`) or a closing leaves at `to` what it makes of the packed plane at `from`
-pub record TwiceMorphed (made : ℕ → ℕ → ℕ → List ℕ → List ℕ) (tally : Tally) (d : List ℕ) (p : Planes) (k : ℕ)
-    (raised : Tally) (d' : List ℕ) : Type 0 where
-  pub leaves : part p.to (area p) d' ≡ made k p.width p.height (part p.from (area p) d)
-  pub counted : Raised tally (2 * sweep_walks k p.width p.height) raised
   pub kept : Beside (3 * area p) p d d'
 
 -- a transposition asks for two planes of `rows` times `columns` apart from each other

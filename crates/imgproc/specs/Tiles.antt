@@ -3,10 +3,11 @@
 use Rattle.std.specs.Prelude.{ℕ, zero, suc, ◌+◌, ◌-◌, ◌*◌, ◌/◌, ◌%◌, ◌≤◌, ◌<◌, min, max, ◌≡◌, List, ltb, pos, ◌+ℤ◌, length, get_or}
 use Rattle.image.specs.declared.Geometry.{Geometry}
 use Rattle.image.specs.Plane.{tabulate, pixel}
-use Rattle.image.specs.Layout.{Kept, side_limit, area_limit}
+use Rattle.image.specs.Layout.{side_limit, area_limit}
 use Rattle.imgproc.specs.declared.grid.config.TileThresholdConfig.{TileThresholdConfig}
 use Rattle.imgproc.specs.declared.grid.tiles.TileNumbers.{TileNumbers}
 use Rattle.imgproc.specs.Fold.{Box, bit, fold_over}
+use Rattle.imgproc.specs.Extremes.{Some}
 use Rattle.imgproc.specs.Reach.{low, high}
 use Rattle.imgproc.specs.Sums.{sum, sum_squares, count}
 use Rattle.imgproc.specs.Grid.{tiles_x_of, tiles_y_of, tile_from, tile_to, least, most, base_of, clipped}
@@ -49,6 +50,12 @@ tile g w h i j = record {
   top = tile_from g.tile_height j;
   bottom = tile_to g.tile_height h j;
 }
+
+-- the box has a pixel, and lies within the sides w and h
+pub record Within (b : Box) (w h : ℕ) : Type 0 where
+  pub some : Some b
+  pub right : b.right < w
+  pub bottom : b.bottom < h
 
 -- the numbers of two sets of pixels together
 abbrev pub joined : TileNumbers → TileNumbers → TileNumbers
@@ -108,15 +115,10 @@ pub record GatherLent : Type 0 where
   pub at : ℕ
 
 module _ (lent : GatherLent) where
-  -- where the numbers of its tiles end
+  -- where the numbers of its tiles end: `gather` asks that its workspace reaches to there
   abbrev pub gather_end : ℕ
   gather_end =
       lent.at + 5 * (tiles_x_of lent.settings lent.source.width * tiles_y_of lent.settings lent.source.height)
-
-  -- `gather` asks that the picture and the tiles have sides, and that the tiles' numbers have room
-  pub record GatherReady : Type 0 where
-    pub sized : Sized lent.settings lent.source.width lent.source.height
-    pub room : gather_end ≤ length lent.workspace
 
   -- the contract of `gather`: the numbers of every tile are stored from `at` on, and nothing else
   pub record Gathers (after : List ℕ) : Type 0 where
@@ -179,17 +181,11 @@ each_tile by g w h at ws = bytes_around by g.neighborhood_radius (tiles_x_of g w
 
 -- ---- `fill` of a build
 
--- the lent buffers hold t tiles
+-- `fill` asks that the lent buffers hold t tiles
 pub record Rooms (lent : BuildLent) : Type 0 where
   pub workspace : 5 * tiles_lent lent ≤ length lent.workspace
   pub thresholds : tiles_lent lent ≤ length lent.thresholds
   pub skips : tiles_lent lent ≤ length lent.skips
-
--- `fill` asks for what a build that no condition refuses is lent
-pub record FillReady (lent : BuildLent) : Type 0 where
-  pub layout : Kept (length lent.src) lent.source
-  pub sized : Sized lent.settings lent.source.width lent.source.height
-  pub rooms : Rooms lent
 
 -- `fill` leaves both buffers as an accepted build leaves them
 pub record Fills (lent : BuildLent) (left : BuildLeft) : Type 0 where

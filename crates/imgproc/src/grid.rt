@@ -8,15 +8,15 @@ pub(crate) mod tiles;
 
 ghost use Rattle.std.specs.Prelude.{◌≡◌, ◌*◌, ◌≤◌};
 ghost use Rattle.image.specs.Answers.{answered};
-ghost use Rattle.imgproc.specs.Refusals.{error_number, first, ◌then◌};
+ghost use Rattle.imgproc.specs.Refusals.{error_number, first};
 ghost use Rattle.imgproc.specs.Grid.{tiles_limit};
-ghost use Rattle.imgproc.specs.GridCalls.{usable_method, grid_settings, tile_count, grid_room, Builds};
-ghost use Rattle.imgproc.specs.Tiles.{FillReady, Fills};
+ghost use Rattle.imgproc.specs.GridCalls.{usable_method, grid_settings, grid_room, Builds};
+ghost use Rattle.imgproc.specs.Tiles.{Rooms, Fills};
 
 use crate::ImgProcError;
 use crate::grid::bytes::{SkipRule, ThresholdRule, write_bytes};
 use crate::grid::table::TileTable;
-use crate::grid::tiles::{gather, tiles_along};
+use crate::grid::tiles::Tiling;
 pub use config::{SauvolaFloats, TileThresholdConfig, TileThresholdMethod};
 use image::{Geometry, Gray8View};
 pub use queries::TileThresholdGrid;
@@ -39,6 +39,7 @@ fn usable_method(method: TileThresholdMethod) -> bool
 }
 
 // Accepts or refuses the settings of a grid.
+#[tactic(auto, unfolding(crate::specs::Refusals::first, crate::specs::GridCalls::grid_settings))]
 pub(crate) fn check_settings(config: TileThresholdConfig) -> Result<(), ImgProcError>
     ensures { result ≡ first (grid_settings config) }
 {
@@ -49,6 +50,7 @@ pub(crate) fn check_settings(config: TileThresholdConfig) -> Result<(), ImgProcE
 }
 
 // Accepts lent buffers that hold `count` tiles.
+#[tactic(auto, unfolding(crate::specs::Refusals::first))]
 fn check_room(
     count: usize,
     room: usize,
@@ -67,48 +69,22 @@ fn check_room(
     Ok(())
 }
 
-// Accepts or refuses settings and buffers, for a picture whose layout is valid.
-fn check_build(
-    source: Gray8View<'_>,
-    config: TileThresholdConfig,
-    room: usize,
-    threshold_room: usize,
-    skip_room: usize,
-) -> Result<(), ImgProcError>
-    ensures { let g = source.entry.geometry in
-        result ≡ first
-        (grid_settings config then
-        grid_room (tile_count config g.width g.height) room threshold_room skip_room) }
-{
-    let geometry = source.geometry;
-    check_settings(config)?;
-    let tiles_x = tiles_along(geometry.width, config.tile_width);
-    let tiles_y = tiles_along(geometry.height, config.tile_height);
-    check_room(tiles_x * tiles_y, room, threshold_room, skip_room)
-}
-
 // Gathers the numbers of all tiles, and writes the thresholds and the skips from them.
-fn fill(
-    source: Gray8View<'_>,
-    config: TileThresholdConfig,
-    workspace: &mut [u64],
-    thresholds: &mut [u8],
-    skips: &mut [u8],
-)
-    requires { FillReady
+fn fill(tiling: Tiling<'_>, workspace: &mut [u64], thresholds: &mut [u8], skips: &mut [u8])
+    requires { Rooms
         (record {
-          src = source.pixels.now;
-          source = source.geometry;
-          settings = config;
+          src = tiling.source.pixels.now;
+          source = tiling.source.geometry;
+          settings = tiling.config;
           workspace = workspace.old;
           thresholds = thresholds.old;
           skips = skips.old;
         }) }
     ensures { Fills
         (record {
-          src = source.entry.pixels.now;
-          source = source.entry.geometry;
-          settings = config;
+          src = tiling.entry.source.pixels.now;
+          source = tiling.entry.source.geometry;
+          settings = tiling.entry.config;
           workspace = workspace.old;
           thresholds = thresholds.old;
           skips = skips.old;
@@ -119,10 +95,10 @@ fn fill(
           skips = skips.new;
         }) }
 {
-    gather(source, config, workspace, 0);
-    let table = TileTable::new(workspace, 0, source.geometry, config);
-    write_bytes(ThresholdRule(config), table, thresholds, 0);
-    write_bytes(SkipRule(config), table, skips, 0);
+    tiling.gather(workspace, 0);
+    let table = TileTable::new(tiling, workspace, 0);
+    write_bytes(ThresholdRule(tiling.config), table, thresholds, 0);
+    write_bytes(SkipRule(tiling.config), table, skips, 0);
 }
 
 impl TileThresholdGrid {
@@ -152,17 +128,14 @@ impl TileThresholdGrid {
             }) }
     {
         let source = Gray8View::new(src, geometry)?;
-        check_build(
-            source,
-            config,
+        let tiling = Tiling::new(source, config)?;
+        check_room(
+            tiling.total(),
             workspace.len(),
             thresholds.len(),
             skips.len(),
         )?;
-        fill(source, config, workspace, thresholds, skips);
-        Ok(TileCounts {
-            tiles_x: tiles_along(geometry.width, config.tile_width),
-            tiles_y: tiles_along(geometry.height, config.tile_height),
-        })
+        fill(tiling, workspace, thresholds, skips);
+        Ok(tiling.counts())
     }
 }

@@ -15,7 +15,8 @@ ghost use Rattle.imgproc.specs.Calls.{Serves, Works};
 ghost use Rattle.imgproc.specs.MorphologyCalls.{compared_answer};
 
 use crate::ImgProcError;
-use crate::morphology::rect::close_rect_into;
+use crate::morphology::bad_kernel;
+use crate::morphology::rect::morph_rect_twice;
 use crate::morphology::sweeps::Planes;
 use crate::morphology::tally::{Tally, start};
 use crate::pair::check_pair;
@@ -48,7 +49,7 @@ fn divide(source: u8, background: u8, config: BackgroundDivideConfig) -> u8
     ensures { result ≡ quotient config source background }
 {
     let denominator = background.max(config.denominator_floor);
-    let value = source as u16 * config.target_luma as u16 / denominator as u16;
+    let value = u16::from(source) * u16::from(config.target_luma) / u16::from(denominator);
     value.min(255) as u8
 }
 
@@ -93,7 +94,7 @@ pub(crate) fn flatten(
         width,
         height,
     };
-    let raised = close_rect_into(tally, workspace, planes, element);
+    let raised = morph_rect_twice::<false, true>(tally, workspace, planes, element, element);
     divide_plane(config, workspace, 0, plane, plane);
     raised
 }
@@ -134,17 +135,18 @@ fn divide_picture(
 }
 
 // Accepts settings that are in range: a bad element is 7 here, and not a bad kernel.
+#[tactic(auto, unfolding(crate::specs::Refusals::first, crate::specs::Refusals::division_settings))]
 pub(crate) fn check_settings(config: BackgroundDivideConfig) -> Result<(), ImgProcError>
     ensures { result ≡ first (division_settings config) }
 {
-    let element = config.structuring_element;
-    if element < 3 || element % 2 == 0 || config.denominator_floor == 0 {
+    if bad_kernel(config.structuring_element) || config.denominator_floor == 0 {
         return Err(ImgProcError::InvalidConfiguration);
     }
     Ok(())
 }
 
 // Accepts settings in range, and then a workspace of seven planes.
+#[tactic(auto, unfolding(crate::specs::Refusals::first), using(crate::specs::RefusalLaws::then_accepted))]
 fn check_division(
     config: BackgroundDivideConfig,
     source: Gray8View<'_>,

@@ -5,19 +5,20 @@ pub(crate) mod sweeps;
 pub mod tally;
 
 ghost use Rattle.std.specs.Prelude.{◌≡◌};
-ghost use Rattle.imgproc.specs.Refusals.{first, kernel_and_room};
+ghost use Rattle.imgproc.specs.Refusals.{bad_kernel, first, kernel_and_room};
 ghost use Rattle.imgproc.specs.MorphologyCalls.{OperateReady, Operated, CountReady, Counts, RunReady};
 ghost use Rattle.imgproc.specs.MorphologyCalls.{compared_answer, morphology, erosion, dilation, opening, closing};
 ghost use Rattle.imgproc.specs.Calls.{Serves, Works};
 
 use crate::ImgProcError;
-use crate::morphology::rect::{close_rect_into, morph_rect_into, open_rect_into};
+use crate::morphology::rect::{morph_rect_into, morph_rect_twice};
 use crate::morphology::sweeps::Planes;
 use crate::morphology::tally::{Tally, start};
 use crate::pair::check_pair;
 use image::{Geometry, Gray8View};
 
-// The four operations. The contracts are by cases of this enum: of a closure in its place they could say its `post` alone.
+// The four operations; `operate` alone asks which. The contracts are by cases of this enum. With a closure in its
+// place they could name only the closure's `post`, and a trait would take four types and four impls.
 #[derive(Clone, Copy)]
 enum Operation {
     Erode,
@@ -50,8 +51,8 @@ fn operate(
     match operation {
         Operation::Erode => morph_rect_into::<true>(tally, ws, planes, kernel, kernel),
         Operation::Dilate => morph_rect_into::<false>(tally, ws, planes, kernel, kernel),
-        Operation::Open => open_rect_into(tally, ws, planes, kernel),
-        Operation::Close => close_rect_into(tally, ws, planes, kernel),
+        Operation::Open => morph_rect_twice::<true, false>(tally, ws, planes, kernel, kernel),
+        Operation::Close => morph_rect_twice::<false, true>(tally, ws, planes, kernel, kernel),
     }
 }
 
@@ -101,12 +102,20 @@ fn run(
     tally
 }
 
+// Finds out whether a kernel is below 3 or even.
+pub(crate) fn bad_kernel(kernel: usize) -> bool
+    ensures { result ≡ bad_kernel kernel }
+{
+    kernel < 3 || kernel % 2 == 0
+}
+
 // Accepts a kernel that is odd and 3 at least, and then a workspace of six planes.
+#[tactic(auto, unfolding(crate::specs::Refusals::first))]
 fn check_kernel(kernel: usize, source: Gray8View<'_>, room: usize) -> Result<(), ImgProcError>
     ensures { result ≡ first (kernel_and_room kernel source.entry.geometry room) }
 {
     let geometry = source.geometry;
-    if kernel < 3 || kernel % 2 == 0 {
+    if bad_kernel(kernel) {
         return Err(ImgProcError::InvalidKernel);
     }
     if room < 6 * (geometry.width * geometry.height) {

@@ -1,4 +1,5 @@
 // What every call from picture to picture checks first: both layouts, and that the sizes are equal.
+// The destination goes on as its slice and its geometry (`unpack_rows` of image says why).
 ghost use Rattle.std.specs.Prelude.{◌≡◌, length, MatchResult};
 ghost use Rattle.imgproc.specs.Refusals.{first, pair_conditions};
 ghost use Rattle.imgproc.specs.Calls.{Paired};

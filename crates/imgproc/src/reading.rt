@@ -4,17 +4,17 @@ pub mod config;
 pub mod judging;
 
 ghost use Rattle.std.specs.Prelude.{◌≡◌};
-ghost use Rattle.imgproc.specs.Tiles.{Sized};
-ghost use Rattle.imgproc.specs.Reading.{Reads, read_answer, reading_settings, reading_room};
+ghost use Rattle.imgproc.specs.Reading.{Reads, read_answer, reading_settings, room_over};
 ghost use Rattle.imgproc.specs.Refusals.{first};
 ghost use Rattle.imgproc.specs.ReadingSteps.{ReadReady, ReadDone, OpenReady, Opened, MarkReady, Marks};
 
 use crate::ImgProcError;
 use crate::grid::bytes::{SkipRule, write_bytes};
 use crate::grid::table::TileTable;
-use crate::grid::tiles::{gather, tiles_along};
+use crate::grid::tiles::Tiling;
 use crate::illumination::flatten;
-use crate::morphology::rect::open_rect_into;
+use crate::morphology::bad_kernel;
+use crate::morphology::rect::morph_rect_twice;
 use crate::morphology::sweeps::Planes;
 use crate::morphology::tally::{Tally, start};
 use crate::pair::check_pair;
@@ -58,7 +58,7 @@ fn flatten_and_open(
         width,
         height,
     };
-    open_rect_into(raised, bytes, planes, kernel)
+    morph_rect_twice::<true, false>(raised, bytes, planes, kernel, kernel)
 }
 
 // Marks the opened picture's tiles: writes their skips from `marks` on.
@@ -82,8 +82,12 @@ fn mark_tiles(
         pixels: &bytes[..plane],
         geometry: packed,
     };
-    gather(opened, grid, u64s, 0);
-    let table = TileTable::new(u64s, 0, packed, grid);
+    let tiling = Tiling {
+        source: opened,
+        config: grid,
+    };
+    tiling.gather(u64s, 0);
+    let table = TileTable::new(tiling, u64s, 0);
     write_bytes(SkipRule(grid), table, bytes, marks);
 }
 
@@ -139,11 +143,12 @@ fn read_picture(
 }
 
 // Checks the settings: the division's, the opening's kernel, the grid's, the threshold's.
+#[tactic(auto, unfolding(crate::specs::Refusals::first, crate::specs::Reading::reading_settings), using(crate::specs::RefusalLaws::then_accepted))]
 pub(crate) fn check_settings(config: ReadingConfig) -> Result<(), ImgProcError>
     ensures { result ≡ first (reading_settings config) }
 {
     crate::illumination::check_settings(config.division)?;
-    if config.opening_kernel < 3 || config.opening_kernel % 2 == 0 {
+    if bad_kernel(config.opening_kernel) {
         return Err(ImgProcError::InvalidKernel);
     }
     crate::grid::check_settings(config.grid)?;
@@ -151,19 +156,13 @@ pub(crate) fn check_settings(config: ReadingConfig) -> Result<(), ImgProcError>
 }
 
 // Checks that both workspaces have room for a reading of the picture.
-pub(crate) fn check_room(
-    geometry: Geometry,
-    config: ReadingConfig,
-    bytes: usize,
-    u64s: usize,
-) -> Result<(), ImgProcError>
-    requires { Sized config.grid geometry.width geometry.height }
-    ensures { result ≡ first (reading_room geometry config bytes u64s) }
+#[tactic(auto, unfolding(crate::specs::Refusals::first))]
+fn check_room(tiling: Tiling<'_>, bytes: usize, u64s: usize) -> Result<(), ImgProcError>
+    ensures { let t = tiling.entry in result ≡ first (room_over t.source.geometry t.config bytes u64s) }
 {
-    let grid = config.grid;
-    let width = geometry.width;
-    let height = geometry.height;
-    let count = tiles_along(width, grid.tile_width) * tiles_along(height, grid.tile_height);
+    let width = tiling.source.geometry.width;
+    let height = tiling.source.geometry.height;
+    let count = tiling.total();
     if bytes < PLANES * (width * height) + 2 * count
         || u64s < 2 * ((width + 1) * (height + 1)) + 5 * count
     {
@@ -172,7 +171,8 @@ pub(crate) fn check_room(
     Ok(())
 }
 
-// Reads a picture: judges every pixel, marks the rows of the destination and counts.
+// Reads a picture: judges every pixel, marks the rows of the destination and counts. The two workspaces stay two
+// parameters, as a destination and its geometry do (`unpack_rows` of image says why).
 pub fn reading(
     src: &[u8],
     src_geometry: Geometry,
@@ -197,6 +197,10 @@ pub fn reading(
 {
     let source = check_pair(src, src_geometry, dst.len(), dst_geometry)?;
     check_settings(config)?;
-    check_room(src_geometry, config, bytes.len(), u64s.len())?;
+    let tiling = Tiling {
+        source,
+        config: config.grid,
+    };
+    check_room(tiling, bytes.len(), u64s.len())?;
     Ok(read_picture(source, dst, dst_geometry, config, bytes, u64s))
 }

@@ -2,7 +2,6 @@
 pub(crate) mod tables;
 
 ghost use Rattle.std.specs.Prelude.{◌≡◌, ℕ, ◌≤◌, ◌<◌, length, get_or};
-ghost use Rattle.image.specs.Layout.{Kept};
 ghost use Rattle.image.specs.Plane.{picture, painted_on};
 ghost use Rattle.imgproc.specs.Refusals.{error_number, first, sauvola_settings, settings_and_room};
 ghost use Rattle.imgproc.specs.WholeRoot.{whole_root};
@@ -17,12 +16,13 @@ ghost use Rattle.imgproc.specs.Sauvola.{
   binarized,
   sauvola,
 };
-ghost use Rattle.imgproc.specs.Calls.{Serves};
+ghost use Rattle.imgproc.specs.Calls.{Serves, Paired};
 ghost use Rattle.image.specs.Answers.{answered};
 
+use crate::ImgProcError;
 use crate::pair::check_pair;
+use crate::reach::Area;
 use crate::threshold::tables::{build_tables, rect_sum};
-use crate::{ImgProcError, reach};
 use image::{Geometry, Gray8View};
 
 // Settings of a binarization. k is given in thousandths.
@@ -55,7 +55,7 @@ fn integer_sqrt(value: u64) -> u64
     requires { value < 65536 }
     ensures { (result ≡ whole_root value) × (result < 256) }
 {
-    (value as u16).isqrt() as u64
+    u64::from((value as u16).isqrt())
 }
 
 // The sums of a window's pixels and of their squares, and how many pixels it has.
@@ -87,8 +87,8 @@ impl Sums {
         requires { InRange config }
         ensures { result ≡ threshold config self.sum self.sum_sq self.count }
     {
-        let k = config.k_milli as u64;
-        let range = config.dynamic_range as u64;
+        let k = u64::from(config.k_milli);
+        let range = u64::from(config.dynamic_range);
         let scale = 1000 - k + k * self.spread() / range;
         self.mean() * scale / 1000
     }
@@ -113,16 +113,12 @@ impl<'a> Thresholds<'a> {
             result ≡ threshold_at_pixel self.entry.config g.width g.height (picture s.pixels.now g) x y }
     {
         let geometry = self.source.geometry;
-        let radius = self.config.radius;
         let wide = geometry.width + 1;
         let squares = self.at + wide * (geometry.height + 1);
-        let x0 = reach::low(x, radius);
-        let x1 = reach::high(x, radius, geometry.width) + 1;
-        let y0 = reach::low(y, radius);
-        let y1 = reach::high(y, radius, geometry.height) + 1;
-        let sum = rect_sum(self.tables, self.at, wide, x0, y0, x1, y1);
-        let sum_sq = rect_sum(self.tables, squares, wide, x0, y0, x1, y1);
-        let count = ((x1 - x0) * (y1 - y0)) as u64;
+        let window = Area::around(x, y, self.config.radius, geometry.width, geometry.height);
+        let sum = rect_sum(self.tables, self.at, wide, window);
+        let sum_sq = rect_sum(self.tables, squares, wide, window);
+        let count = ((window.right + 1 - window.left) * (window.bottom + 1 - window.top)) as u64;
         let sums = Sums { sum, sum_sq, count };
         sums.threshold(self.config)
     }
@@ -135,7 +131,7 @@ impl<'a> Thresholds<'a> {
             → get_or out.new x 0 ≡ verdict self.entry.config g.width g.height (picture s.pixels.now g) x y }
     {
         for (x, value) in self.source.row(y).iter().enumerate() {
-            out[x] = if *value as u64 <= self.at_pixel(x, y) {
+            out[x] = if u64::from(*value) <= self.at_pixel(x, y) {
                 self.config.dark_value
             } else {
                 self.config.light_value
@@ -145,9 +141,7 @@ impl<'a> Thresholds<'a> {
 
     // Judges the picture, and writes the verdicts into the destination's rows.
     fn binarize(self, dst: &mut [u8], dst_geometry: Geometry)
-        requires { let g = self.source.geometry in
-            Kept (length dst.old) dst_geometry
-            × ((dst_geometry.width ≡ g.width) × (dst_geometry.height ≡ g.height)) }
+        requires { Paired (length self.source.pixels.now) self.source.geometry (length dst.old) dst_geometry }
         ensures { let s = self.entry.source in let g = s.geometry in
             dst.new
             ≡ painted_on dst.old dst_geometry
@@ -162,6 +156,7 @@ impl<'a> Thresholds<'a> {
 }
 
 // Accepts settings that are in range.
+#[tactic(auto, unfolding(crate::specs::Refusals::first, crate::specs::Refusals::sauvola_settings))]
 pub(crate) fn check_settings(config: SauvolaConfig) -> Result<(), ImgProcError>
     ensures { result ≡ first (sauvola_settings config) }
 {
@@ -172,6 +167,7 @@ pub(crate) fn check_settings(config: SauvolaConfig) -> Result<(), ImgProcError>
 }
 
 // Accepts settings in range, and then a workspace that holds both tables of a picture.
+#[tactic(auto, unfolding(crate::specs::Refusals::first), using(crate::specs::RefusalLaws::then_accepted))]
 fn check_room(config: SauvolaConfig, source: Gray8View<'_>, room: usize) -> Result<(), ImgProcError>
     ensures { result ≡ first (settings_and_room config source.entry.geometry room) }
 {

@@ -9,7 +9,7 @@ use crate::answers::{built, told, told_byte};
 use image::Geometry;
 use imgproc::grid::{SauvolaFloats, TileThresholdConfig, TileThresholdGrid, TileThresholdMethod};
 
-// Gives the method of a number, as which C has it. Any number but 0 and 1 gets a range of 0, which the build refuses.
+// Gives the method that a number of C's stands for. Any number but 0 and 1 gets a range of 0, which the build refuses.
 pub(crate) fn method_of(method: u32, k: f64, dynamic_range: f64) -> TileThresholdMethod
     ensures { result ≡ method_of method k dynamic_range }
 {

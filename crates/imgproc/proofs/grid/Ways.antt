@@ -2,16 +2,18 @@
 use Rattle.std.specs.Prelude.{Ok}
 use mathlib.Core.Path.{◌≡◌}
 use mathlib.Core.Bool.{not, ◌||◌}
-use Prim.Native.Nat.{◌*◌, ◌<◌}
+use Prim.Native.Nat.{ℕ, ◌*◌, ◌<◌}
 use native.Mathlib.Nat.{pos_of_ne-zero}
 use lib.Dec.{ltb, eqb}
 use lib.ListN.{length}
 use borrow.Author.Tests.{ltb-false, eqb-false}
+use Rattle.image.specs.declared.Geometry.{Geometry}
+use Rattle.image.specs.Layout.{Kept}
 use Rattle.image.specs.LayoutLaws.{neither}
 use Rattle.imgproc.specs.declared.ImgProcError.TheVariants.{InvalidConfiguration, WorkspaceTooSmall, GridBufferTooSmall}
 use Rattle.imgproc.specs.declared.grid.config.TileThresholdConfig.{TileThresholdConfig}
 use Rattle.imgproc.specs.GridCalls.{usable_method, grid_settings, grid_room, BuildLent, tiles_lent}
-use Rattle.imgproc.specs.Tiles.{Rooms}
+use Rattle.imgproc.specs.Tiles.{Sized, Rooms}
 use Rattle.imgproc.specs.Refusals.{Conditions, first, refused_if}
 use Rattle.imgproc.specs.RefusalLaws.{both_accepted, not_refused}
 
@@ -25,6 +27,17 @@ sides_accepted g e =
     let m = not (usable_method g.method) in
     let a = neither (w || h) m (not_refused (w || h || m) InvalidConfiguration e) in
     let b = neither w h a.0 in (pos_of_ne-zero (eqb-false _ _ b.0), pos_of_ne-zero (eqb-false _ _ b.1))
+
+-- a picture of a valid layout, and such tile sides
+pub sized_of : {n : ℕ} {v : Geometry} {g : TileThresholdConfig} → Kept n v → 0 < g.tile_width → 0 < g.tile_height → Sized g v.width v.height
+sized_of k w h = record {
+  wide = k.wide;
+  high = k.high;
+  small_width = k.small_width;
+  small_height = k.small_height;
+  tile_width = w;
+  tile_height = h;
+}
 
 -- the room of what was lent: its tiles, and its three buffers
 abbrev pub room_of : BuildLent → Conditions

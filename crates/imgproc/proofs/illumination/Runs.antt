@@ -1,13 +1,13 @@
--- The work of an accepted division: what is packed, closed, divided and painted is the contract's picture; and the ways out of its settings. Assumes nothing.
-use Rattle.std.specs.Prelude.{Ok, Err}
+-- The work of an accepted division: what is packed, closed, divided and painted is the contract's picture. Assumes nothing.
+use Rattle.std.specs.Prelude.{true, false, Ok}
 use mathlib.Core.Path.{◌≡◌, sym, ap, ap₂, ◌∙◌}
 use mathlib.Core.List.{List}
 use mathlib.Core.Logic.{inl}
-use Prim.Native.Nat.{ℕ, ◌+◌, ◌*◌, ◌%◌, ◌≤◌, ◌<◌}
+use Prim.Native.Nat.{ℕ, ◌+◌, ◌*◌, ◌≤◌, ◌<◌}
 use native.Mathlib.Omega.{arith}
 use lib.ListN.{length, get_or}
 use lib.Dec.{ltb}
-use borrow.Author.Tests.{eq-eqb, ne_eqb, lt-ltb, le-ltb, ltb-false}
+use borrow.Author.Tests.{ltb-false}
 use Rattle.imgproc.specs.RefusalLaws.{both_accepted, not_refused, division_says}
 use Rattle.image.specs.declared.Geometry.{Geometry}
 use Rattle.image.specs.Answers.{Answer, Bare}
@@ -16,17 +16,21 @@ use Rattle.image.specs.Plane.{picture, part}
 use Rattle.image.specs.PlaneLaws.{in_plane, is_plane, length_part, get_d_part}
 use Rattle.image.specs.Copy.{Packs, Unpacks}
 use Rattle.imgproc.specs.declared.illumination.BackgroundDivideConfig.{BackgroundDivideConfig}
-use Rattle.imgproc.specs.declared.ImgProcError.TheVariants.{InvalidConfiguration, WorkspaceTooSmall}
+use Rattle.imgproc.specs.declared.ImgProcError.TheVariants.{WorkspaceTooSmall}
 use Rattle.imgproc.specs.declared.morphology.tally.Tally.{Tally}
+use Rattle.imgproc.specs.declared.morphology.sweeps.Planes.{Planes}
 use Rattle.imgproc.specs.Tallies.{Stands, raised_fresh}
 use Rattle.imgproc.specs.Morphology.{closed}
-use Rattle.imgproc.specs.Sweeps.{TwiceMorphed}
+use Rattle.imgproc.specs.Sweeps.{PairMorphed}
 use Rattle.imgproc.specs.Refusals.{first, refused_if, division_settings, element_and_room}
 use Rattle.imgproc.specs.Calls.{Loan, Works, Paired}
 use Rattle.imgproc.specs.Division.{quotient, divided_by, divided, division, PlaneDivided, FlattenReady, Flattened, DivideReady}
 use Rattle.image.specs.CopyLaws.{packs_plane}
 use Rattle.imgproc.proofs.Serving.{unpacked_works}
-use Rattle.imgproc.proofs.morphology.Runs.{first_to_second}
+
+-- the closing reads the first plane, writes the second, and has its scratch after both
+abbrev first_to_second : ℕ → ℕ → Planes
+first_to_second w h = record { from = 0; to = w * h; spare = 2 * (w * h); width = w; height = h }
 
 -- ---- packed, closed, divided
 module _ {tally : Tally} {src : List ℕ} {g : Geometry} {d : BackgroundDivideConfig} {ws : List ℕ} (kept : Kept (length src) g)
@@ -35,7 +39,7 @@ module _ {tally : Tally} {src : List ℕ} {g : Geometry} {d : BackgroundDivideCo
   plane = packs_plane kept (omega (arith, ready.fits)) pack
 
   module _ {raised : Tally} {second : List ℕ}
-      (close : TwiceMorphed closed tally first (first_to_second g.width g.height) d.structuring_element raised second) where
+      (close : let k = d.structuring_element in PairMorphed tally first (first_to_second g.width g.height) k k false true raised second) where
     close_long : length second ≡ length ws
     close_long = close.kept.long ∙ plane.0
 
@@ -79,26 +83,6 @@ module _ {lent : Loan BackgroundDivideConfig} (ready : DivideReady lent) {tally 
       → Works division lent raised (record { dst = dst; workspace = ws })
   divide_works flat unpack =
       unpacked_works ready.pair ready.fits flat.leaves (raised_fresh fresh flat.counted) flat.long unpack
-
--- ---- the settings
-module _ (d : BackgroundDivideConfig) where
-  pub element_small : d.structuring_element < 3 → Err InvalidConfiguration ≡ first (division_settings d)
-  unfolding first division_settings
-  element_small x = simp (lt-ltb d.structuring_element 3 x)
-
-  pub element_even : 3 ≤ d.structuring_element → d.structuring_element % 2 ≡ 0 → Err InvalidConfiguration ≡ first (division_settings d)
-  unfolding first division_settings
-  element_even l x = simp (le-ltb d.structuring_element 3 l, eq-eqb _ _ x)
-
-  pub no_floor : 3 ≤ d.structuring_element → (d.structuring_element % 2 ≡ 0 → ⊥) → d.denominator_floor ≡ 0
-      → Err InvalidConfiguration ≡ first (division_settings d)
-  unfolding first division_settings
-  no_floor l o x = simp (le-ltb d.structuring_element 3 l, ne_eqb (d.structuring_element % 2) 0 o, eq-eqb d.denominator_floor 0 x)
-
-  pub settings_good : 3 ≤ d.structuring_element → (d.structuring_element % 2 ≡ 0 → ⊥) → (d.denominator_floor ≡ 0 → ⊥)
-      → Ok tt ≡ first (division_settings d)
-  unfolding first division_settings
-  settings_good l o x = simp (le-ltb d.structuring_element 3 l, ne_eqb (d.structuring_element % 2) 0 o, ne_eqb d.denominator_floor 0 x)
 
 -- ---- what accepted settings and room say
 pub division_ready : {lent : Loan BackgroundDivideConfig}

@@ -15,10 +15,10 @@ use Rattle.imgproc.specs.Tallies.{Raised, HasRoom, raised_twice, room_part, room
 use Rattle.imgproc.specs.Extremes.{Extreme, Between, Inside}
 use Rattle.imgproc.specs.Reach.{reach_box, reach_from, reach_to, line_walks}
 use Rattle.imgproc.specs.Walks.{cases, lines_walks_le}
-use Rattle.imgproc.specs.Compared.{Before}
-use Rattle.imgproc.specs.Morphology.{swept}
+use Rattle.imgproc.specs.Compared.{Before, extreme}
+use Rattle.imgproc.specs.Morphology.{swept, swept_rect}
 use Rattle.imgproc.specs.MorphologyLaws.{reach_in, is_swept}
-use Rattle.imgproc.specs.Sweeps.{lane, Off, Reached, area, planes_in_place, strip_of, transposed, Beside, LinesSwept, Transposed, SweepReady, RowsSwept, ColumnsSwept, MorphReady, Morphed, PairReady}
+use Rattle.imgproc.specs.Sweeps.{lane, Off, Reached, area, planes_in_place, strip_of, transposed, Beside, LinesSwept, Transposed, SweepReady, RowsSwept, ColumnsSwept, MorphReady, Morphed, PairReady, PairMorphed}
 use Rattle.imgproc.proofs.morphology.sweeps.Blocks.{order, seen}
 use Rattle.imgproc.proofs.morphology.Lanes.{off, apart_within, outside_at, line_order}
 
@@ -221,3 +221,14 @@ module _ {one : Bool} {kw kh : ℕ} {p : Planes} {t a : Tally} {d e : List ℕ} 
         wide = asked.wide;
         room = room;
       }
+
+  -- and what both leave
+  pub pair_morphed : {two : Bool} {r : Tally} {g : List ℕ} → Morphed a e (planes_in_place p) kw kh two r g → PairMorphed t d p kw kh one two r g
+  pair_morphed {two} again = record {
+    leaves = again.leaves ∙ ap (swept_rect (extreme two) kw kh p.width p.height) once.leaves;
+    counted = raised_twice once.counted again.counted (omega arith);
+    kept = record {
+      long = again.kept.long ∙ once.kept.long;
+      same = λ j u v. again.kept.same j u v ∙ once.kept.same j u v;
+    };
+  }

@@ -9,16 +9,11 @@ use Rattle.image.specs.Answers.{Answer, Bare}
 use Rattle.image.specs.Plane.{picture, part}
 use Rattle.image.specs.Copy.{Packs, Unpacks}
 use Rattle.imgproc.specs.declared.morphology.tally.Tally.{Tally}
-use Rattle.imgproc.specs.declared.morphology.sweeps.Planes.{Planes}
 use Rattle.imgproc.specs.declared.morphology.Operation.{Operation}
 use Rattle.imgproc.specs.MorphologyCalls.{operated, morphology, Counts, RunReady}
 use Rattle.imgproc.specs.Calls.{Loan, Works}
 use Rattle.image.specs.CopyLaws.{packs_plane}
 use Rattle.imgproc.proofs.Serving.{unpacked_works}
-
--- ---- an operation reads the first plane, writes the second, and has its scratch after both
-abbrev pub first_to_second : ℕ → ℕ → Planes
-first_to_second w h = record { from = 0; to = w * h; spare = 2 * (w * h); width = w; height = h }
 
 -- ---- packed, operated on, painted
 module _ {lent : Loan ℕ} (ready : RunReady lent) {r : Answer Bare} {first : List ℕ}

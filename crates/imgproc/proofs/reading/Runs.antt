@@ -1,7 +1,8 @@
 -- The stages of a reading in its workspaces: flattened and opened, and the tiles' marks. Assumes nothing.
-use mathlib.Core.Path.{◌≡◌, sym, ap, ap₂, ◌∙◌}
+use mathlib.Core.Path.{◌≡◌, refl, sym, ap, ap₂, ◌∙◌}
 use mathlib.Core.List.{List}
 use mathlib.Core.Logic.{inl, inr}
+use mathlib.Core.Bool.{true, false}
 use Prim.Native.Nat.{ℕ, ◌+◌, ◌*◌, ◌/◌, ◌%◌, ◌≤◌, ◌<◌}
 use native.Mathlib.Omega.{arith}
 use lib.ListN.{length, take}
@@ -13,14 +14,16 @@ use Rattle.image.specs.Views.{picture_again}
 use Rattle.imgproc.specs.declared.reading.config.ReadingConfig.{ReadingConfig}
 use Rattle.imgproc.specs.declared.morphology.tally.Tally.{Tally}
 use Rattle.imgproc.specs.declared.morphology.sweeps.Planes.{Planes}
-use Rattle.imgproc.specs.Tallies.{room_left}
+use Rattle.imgproc.specs.Tallies.{raised_twice, room_left}
 use Rattle.imgproc.specs.Fold.{bit}
 use Rattle.imgproc.specs.Walks.{lines_walks_le}
-use Rattle.imgproc.specs.Sweeps.{TwiceReady}
+use Rattle.imgproc.specs.Morphology.{opened}
+use Rattle.imgproc.specs.Sweeps.{PairReady, PairMorphed}
 use Rattle.imgproc.specs.Division.{Flattened}
 use Rattle.imgproc.specs.Grid.{tiles_x_of, tiles_y_of, skip_of, skips}
-use Rattle.imgproc.specs.Tiles.{Sized, GatherLent, GatherReady, Gathers, each_tile, skip_by}
-use Rattle.imgproc.specs.ReadingSteps.{OpenReady, MarkReady, Marks}
+use Rattle.imgproc.specs.Tiles.{Sized, GatherLent, Gathers, each_tile, skip_by}
+use Rattle.imgproc.specs.ReadingSteps.{OpenReady, Opened, MarkReady, Marks}
+use Rattle.imgproc.proofs.grid.Ways.{sized_of}
 use Rattle.imgproc.proofs.grid.bytes.Tables.{skips_are}
 
 -- ---- flattened and opened
@@ -31,24 +34,38 @@ module _ {tally : Tally} {g : Geometry} {s : ReadingConfig} {ws : List ℕ} (wid
     abbrev pub second_to_first : Planes
     second_to_first = record { from = g.width * g.height; to = 0; spare = 2 * (g.width * g.height); width = g.width; height = g.height }
 
-    pub open_ready : TwiceReady raised first second_to_first s.opening_kernel
+    pub open_ready : PairReady raised first second_to_first s.opening_kernel s.opening_kernel
     open_ready =
         let across = lines_walks_le s.division.structuring_element g.width g.height in
         let down = lines_walks_le s.division.structuring_element g.height g.width in
         record {
-          rows = record {
-            source = omega (arith, flat.long, ready.fits);
-            target = omega (arith, flat.long, ready.fits);
-            scratch = omega (arith, flat.long, ready.fits);
-            source_apart = record { clear = inl (omega arith) };
-            target_apart = record { clear = inl (omega arith) };
-            planes = inr (record { clear = inr (omega arith) });
-            kernel = ready.kernel;
+          once = record {
+            rows = record {
+              source = omega (arith, flat.long, ready.fits);
+              target = omega (arith, flat.long, ready.fits);
+              scratch = omega (arith, flat.long, ready.fits);
+              source_apart = record { clear = inl (omega arith) };
+              target_apart = record { clear = inl (omega arith) };
+              planes = inr (record { clear = inr (omega arith) });
+              kernel = ready.kernel;
+              room = room_left ready.room flat.counted (omega arith);
+            };
+            columns = ready.kernel;
+            wide = wide;
             room = room_left ready.room flat.counted (omega arith);
           };
-          wide = wide;
           room = room_left ready.room flat.counted (omega arith);
         }
+
+    -- the opening leaves the flattened picture opened, and the tally raised by both
+    pub opened_is : {r : Tally} {second : List ℕ}
+        → PairMorphed raised first second_to_first s.opening_kernel s.opening_kernel true false r second
+        → Opened tally src g s ws r second
+    opened_is o = record {
+      leaves = o.leaves ∙ ap (opened s.opening_kernel g.width g.height) flat.leaves;
+      counted = raised_twice flat.counted o.counted refl;
+      long = o.kept.long ∙ flat.long;
+    }
 
 -- ---- the tiles' marks
 module _ {g : Geometry} {s : ReadingConfig} {at : ℕ} {bytes u64s : List ℕ} (ready : MarkReady g s at bytes u64s) where
@@ -56,22 +73,12 @@ module _ {g : Geometry} {s : ReadingConfig} {at : ℕ} {bytes u64s : List ℕ} (
   prefix_long = length-take-le (g.width * g.height) bytes (omega (arith, ready.behind, ready.bytes_fit))
 
   pub sized : Sized s.grid g.width g.height
-  sized = record {
-    wide = ready.layout.wide;
-    high = ready.layout.high;
-    small_width = ready.layout.small_width;
-    small_height = ready.layout.small_height;
-    tile_width = ready.tile_width;
-    tile_height = ready.tile_height;
-  }
+  sized = sized_of ready.layout ready.tile_width ready.tile_height
 
   -- what `gather` is lent: the opened picture, packed, and the u64 workspace from its start on
   abbrev gather_lent : GatherLent
   gather_lent =
       record { src = take (g.width * g.height) bytes; source = g; settings = s.grid; workspace = u64s; at = 0 }
-
-  pub gather_ready : GatherReady gather_lent
-  gather_ready = record { sized = sized; room = omega (arith, ready.u64s_fit) }
 
   module _ {u64s' : List ℕ} (gathered : Gathers gather_lent u64s') where
     new : List ℕ
@@ -88,7 +95,7 @@ module _ {g : Geometry} {s : ReadingConfig} {at : ℕ} {bytes u64s : List ℕ} (
     is_new : each_tile (skip_by s.grid) s.grid g.width g.height 0 u64s' ≡ new
     unfolding new
     is_new =
-        skips_are gather_lent gather_ready gathered
+        skips_are gather_lent sized gathered
         ∙ ap (skips s.grid g.width g.height)
         (picture_again (take (g.width * g.height) bytes) g ready.layout.wide ready.tight prefix_long)
 

@@ -2,11 +2,11 @@
 use Rattle.std.specs.Prelude.{Ok, Err}
 use mathlib.Core.Path.{◌≡◌, refl, ap, ◌∙◌}
 use mathlib.Core.Bool.{◌||◌}
-use Prim.Native.Nat.{ℕ, ◌+◌, ◌*◌, ◌≤◌, ◌<◌}
+use Prim.Native.Nat.{ℕ, ◌≤◌}
 use native.Mathlib.Omega.{arith}
 use lib.Dec.{ltb}
 use lib.ListN.{length}
-use borrow.Author.Tests.{lt-ltb, le-ltb, ltb-false}
+use borrow.Author.Tests.{ltb-false}
 use Rattle.image.specs.declared.Geometry.{Geometry}
 use Rattle.image.specs.Answers.{accepted, refused}
 use Rattle.image.specs.LayoutLaws.{neither}
@@ -15,26 +15,15 @@ use Rattle.imgproc.specs.declared.reading.ReadingCounts.{ReadingCounts}
 use Rattle.imgproc.specs.declared.ImgProcError.{ImgProcError}
 use Rattle.imgproc.specs.declared.ImgProcError.TheVariants.{InvalidKernel, WorkspaceTooSmall}
 use Rattle.imgproc.specs.Refusals.{error_number, Conditions, first, ◌then◌, refused_if, pair_conditions, bad_kernel, division_settings, sauvola_settings}
-use Rattle.imgproc.specs.GridCalls.{grid_settings, tile_count}
-use Rattle.imgproc.specs.Reading.{
-  reading_settings,
-  marks_at,
-  reading_bytes,
-  reading_u64s,
-  reading_room,
-  ReadingLent,
-  ReadingLeft,
-  numbers_of,
-  reading_conditions,
-  Reads,
-}
+use Rattle.imgproc.specs.GridCalls.{grid_settings}
+use Rattle.imgproc.specs.Reading.{reading_settings, reading_bytes, reading_u64s, reading_room, ReadingLent, ReadingLeft, numbers_of, reading_conditions, Reads}
 use Rattle.imgproc.specs.ReadingSteps.{Usable, ReadReady, ReadDone}
 use Rattle.imgproc.specs.RefusalLaws.{then_accepted, then_refused, both_accepted, not_refused, kernel_says, division_says}
 use Rattle.imgproc.specs.Calls.{Paired}
 use Rattle.imgproc.specs.Tiles.{Sized}
 use Rattle.imgproc.proofs.WaysOut.{past, before}
 use Rattle.imgproc.proofs.Answers.{in_range}
-use Rattle.imgproc.proofs.grid.Ways.{sides_accepted}
+use Rattle.imgproc.proofs.grid.Ways.{sides_accepted, sized_of}
 
 -- what accepted settings say
 pub says : (s : ReadingConfig) → first (reading_settings s) ≡ Ok tt → Usable s
@@ -58,28 +47,6 @@ says s p =
     }
 
 -- ---- the workspaces
-module _ (g : Geometry) (s : ReadingConfig) (bytes u64s t : ℕ) (is : t ≡ tile_count s.grid g.width g.height) where
-  pub bytes_short : bytes < marks_at g.width g.height + 2 * t → Err WorkspaceTooSmall ≡ first (reading_room g s bytes u64s)
-  unfolding first
-  bytes_short l = simp (lt-ltb bytes (reading_bytes s.grid g.width g.height) (rw is at l))
-
-  module _ (b : marks_at g.width g.height + 2 * t ≤ bytes) where
-    pub u64s_short : u64s < 2 * ((g.width + 1) * (g.height + 1)) + 5 * t → Err WorkspaceTooSmall ≡ first (reading_room g s bytes u64s)
-    unfolding first
-    u64s_short l =
-        simp (
-          le-ltb bytes (reading_bytes s.grid g.width g.height) (rw is at b),
-          lt-ltb u64s (reading_u64s s.grid g.width g.height) (rw is at l),
-        )
-
-    pub room_enough : 2 * ((g.width + 1) * (g.height + 1)) + 5 * t ≤ u64s → Ok tt ≡ first (reading_room g s bytes u64s)
-    unfolding first
-    room_enough l =
-        simp (
-          le-ltb bytes (reading_bytes s.grid g.width g.height) (rw is at b),
-          le-ltb u64s (reading_u64s s.grid g.width g.height) (rw is at l),
-        )
-
 pub room_says :
     (g : Geometry) (s : ReadingConfig) (bytes u64s : ℕ)
     → first (reading_room g s bytes u64s) ≡ Ok tt
@@ -131,16 +98,7 @@ module _ (lent : ReadingLent) where
 
       -- the grid's sides, and all that the work of an accepted call asks
       pub sized : Sized lent.settings.grid lent.source.width lent.source.height
-      sized =
-          let y = says lent.settings settings in
-          record {
-            wide = p.from.wide;
-            high = p.from.high;
-            small_width = p.from.small_width;
-            small_height = p.from.small_height;
-            tile_width = y.tile_width;
-            tile_height = y.tile_height;
-          }
+      sized = let y = says lent.settings settings in sized_of p.from y.tile_width y.tile_height
 
       module _ (taken : first room ≡ Ok tt) where
         pub ready : ReadReady lent

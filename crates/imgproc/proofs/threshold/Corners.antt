@@ -1,13 +1,12 @@
 -- Four corners of each table give the sums of a pixel's window, these are sane, and so its threshold is the definition's. Assumes nothing.
 use Prim.Native.Nat.{ℕ, ◌+◌, ◌-◌, ◌*◌, ◌≤◌, ◌<◌}
-use native.Mathlib.Nat.{mul-le-mul, mul-le-mul_right, mul-pos, add-sub_of_le, sub-le, le_trans}
+use native.Mathlib.Nat.{mul-le-mul, mul-le-mul_right, mul-pos, add-sub_of_le, le_trans}
 use native.Mathlib.Omega.{arith}
 use mathlib.Core.Path.{◌≡◌, sym, ◌∙◌, subst}
 use mathlib.Core.List.{List}
 use lib.ListN.{length}
 use Rattle.image.specs.declared.Geometry.{Geometry}
-use Rattle.image.specs.Layout.{Kept, side_limit, area_limit}
-use Rattle.image.specs.LayoutLaws.{sides_small}
+use Rattle.image.specs.Layout.{Kept, side_limit}
 use Rattle.image.specs.Plane.{picture}
 use Rattle.imgproc.specs.declared.threshold.SauvolaConfig.{SauvolaConfig}
 use Rattle.imgproc.specs.Fold.{Box, fold_box}
@@ -72,11 +71,10 @@ side_some l = omega arith
 side_in : (a b n : ℕ) → b ≤ n → (i : ℕ) → i < b - a → a + i < n
 side_in a b n l i m = omega arith
 
--- what the loops ask of a window from x0 to x1 and from y0 to y1, the ends left out: its corners, its count, and the sums that its corners give
+-- what the loops ask of a window from x0 to x1 and from y0 to y1, the ends left out: its corners, and the sums that its corners give
 pub record WindowSums (d : List ℕ) (g : Geometry) (ws : List ℕ) (base : ℕ) (config : SauvolaConfig) (x y x0 x1 y0 y1 : ℕ) : Type 0 where
   pub sum_corners : Corners ws base (g.width + 1) x0 y0 x1 y1
   pub square_corners : Corners ws (base + (g.width + 1) * (g.height + 1)) (g.width + 1) x0 y0 x1 y1
-  pub count_fits : (x1 - x0) * (y1 - y0) ≤ area_limit
   pub sane : (S Q : ℕ) → S ≡ corner_sum ws base (g.width + 1) x0 y0 x1 y1
       → Q ≡ corner_sum ws (base + (g.width + 1) * (g.height + 1)) (g.width + 1) x0 y0 x1 y1 → Sane S Q ((x1 - x0) * (y1 - y0))
   pub threshold_is :
@@ -126,12 +124,6 @@ module _
         (omega (arith, T.both.room))
         K.small_width K.small_height (omega (arith, spans)) (omega (arith, spans)) (omega (arith, spans)) (omega (arith, spans))
 
-    small_count : (x1 - x0) * (y1 - y0) ≤ area_limit
-    small_count =
-        sides_small (x1 - x0) (y1 - y0)
-        (le_trans (sub-le x1 x0) (le_trans spans.0.1 K.small_width))
-        (le_trans (sub-le y1 y0) (le_trans spans.1.1 K.small_height))
-
     -- the sums that `rect_sum` gave
     module _ (S Q : ℕ) (s : S ≡ corner_sum ws base (g.width + 1) x0 y0 x1 y1)
         (q : Q ≡ corner_sum ws (base + (g.width + 1) * (g.height + 1)) (g.width + 1) x0 y0 x1 y1) where
@@ -174,7 +166,6 @@ module _
     window_sums = record {
       sum_corners = of_sums.1;
       square_corners = of_squares.1;
-      count_fits = small_count;
       sane = sums_sane;
       threshold_is = same_threshold;
     }

@@ -15,7 +15,8 @@ fn rounded(v: f64) -> u8
     num::saturating_f64_to_u8(v.round())
 }
 
-// The numbers of any tiles are small, and so every method asks. It is no fact of the type: `join` adds numbers of any size.
+// The numbers of tiles are small, and the methods that divide ask for that (`Small`). It is no fact of the type, since
+// `join` adds numbers of any size.
 impl TileNumbers {
     fn mean(self) -> f64
         requires { Small self }

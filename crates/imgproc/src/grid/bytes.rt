@@ -45,15 +45,16 @@ impl TileRule for SkipRule {
 
 // Writes the byte of every tile from `to` on, tile row after tile row.
 pub(crate) fn write_bytes<R: TileRule>(rule: R, table: TileTable<'_>, bytes: &mut [u8], to: usize)
-    requires { to + table.tiles_x * table.tiles_y ≤ length bytes.old }
+    requires { to + table.tiles.tiles_x * table.tiles.tiles_y ≤ length bytes.old }
     ensures { bytes.new
         ≡ overwritten to
         (bytes_around (R.byte_of rule)
-        table.entry.radius table.entry.tiles_x table.entry.tiles_y table.entry.at table.entry.workspace.now)
+        table.entry.radius table.entry.tiles.tiles_x table.entry.tiles.tiles_y table.entry.at table.entry.workspace.now)
         bytes.old }
 {
-    for t in 0..table.tiles_x * table.tiles_y {
-        let numbers = table.join_around(t % table.tiles_x, t / table.tiles_x);
+    let tiles = table.tiles;
+    for t in 0..tiles.tiles_x * tiles.tiles_y {
+        let numbers = table.join_around(t % tiles.tiles_x, t / tiles.tiles_x);
         bytes[to + t] = rule.byte(numbers);
     }
 }

@@ -1,12 +1,17 @@
-// Gathers the five numbers of each tile into a u64 workspace from an offset on.
-ghost use Rattle.std.specs.Prelude.{◌≡◌, ◌+◌, ◌-◌, ◌*◌, ◌^◌, ◌≤◌, ◌<◌, min, length, get_or};
+// Lays the tiles of a grid over a picture, and gathers the five numbers of each into a u64 workspace from an offset on.
+ghost use Rattle.std.specs.Prelude.{◌≡◌, ◌+◌, ◌-◌, ◌*◌, ◌^◌, ◌≤◌, ◌<◌, length, get_or, MatchResult};
 ghost use Rattle.image.specs.Layout.{side_limit};
 ghost use Rattle.image.specs.Plane.{pixel};
 ghost use Rattle.imgproc.specs.Reach.{ceiling};
-ghost use Rattle.imgproc.specs.Grid.{tiles_x_of, tiles_y_of};
-ghost use Rattle.imgproc.specs.Tiles.{Sized, numbers_in, line_numbers, tile, joined, Stores, GatherReady, Gathers};
+ghost use Rattle.imgproc.specs.Grid.{tiles_x_of, tiles_y_of, tile_to, tiles_limit};
+ghost use Rattle.imgproc.specs.GridCalls.{grid_settings, tile_count, tile_counts};
+ghost use Rattle.imgproc.specs.Refusals.{first};
+ghost use Rattle.imgproc.specs.Tiles.{Sized, Within, numbers_in, line_numbers, tile, joined, Stores, gather_end, Gathers};
 
+use crate::ImgProcError;
+use crate::grid::TileCounts;
 use crate::grid::config::TileThresholdConfig;
+use crate::reach::Area;
 use image::Gray8View;
 
 // The numbers of a set of pixels.
@@ -45,16 +50,16 @@ impl TileNumbers {
         }
     }
 
-    // Works out the numbers of the pixels left..right, top..bottom of a picture.
-    fn of_box(source: Gray8View<'_>, left: usize, right: usize, top: usize, bottom: usize) -> Self
-        requires { (left < right) × (right ≤ source.geometry.width)
-            × (top < bottom) × (bottom ≤ source.geometry.height) }
-        ensures { result ≡ numbers_in (pixel source.entry.pixels.now source.entry.geometry.stride)
-            (record { left = left; right = right - 1; top = top; bottom = bottom - 1 }) }
+    // Works out the numbers of the pixels of an area.
+    fn of_area(source: Gray8View<'_>, area: Area) -> Self
+        requires { Within area source.geometry.width source.geometry.height }
+        ensures { result ≡ numbers_in (pixel source.entry.pixels.now source.entry.geometry.stride) area }
     {
-        let mut numbers = Self::of_line(&source.row(top)[left..right]);
-        for y in top + 1..bottom {
-            let next = Self::of_line(&source.row(y)[left..right]);
+        let from = area.left;
+        let to = area.right + 1;
+        let mut numbers = Self::of_line(&source.row(area.top)[from..to]);
+        for y in area.top + 1..area.bottom + 1 {
+            let next = Self::of_line(&source.row(y)[from..to]);
             numbers = numbers.join(next);
         }
         numbers
@@ -96,63 +101,102 @@ pub(crate) fn tiles_along(n: usize, side: usize) -> usize
     n.div_ceil(side)
 }
 
-// Gives the end of tile i, along an axis of n samples with tiles of `side`.
-fn tile_end(n: usize, side: usize, i: usize) -> usize
-    requires { i * side < n }
-    ensures { result ≡ min (i * side + side) n }
+// Gives the last sample of tile i, along an axis of n samples with tiles of `side`.
+fn tile_last(n: usize, side: usize, i: usize) -> usize
+    requires { (0 < side) × (i * side < n) }
+    ensures { result ≡ tile_to side n i }
 {
     let from = i * side;
-    from + side.min(n - from)
+    from + (side - 1).min(n - 1 - from)
 }
 
-// Works out the numbers of tile (i, j).
-fn tile_numbers(
-    source: Gray8View<'_>,
-    config: TileThresholdConfig,
-    i: usize,
-    j: usize,
-) -> TileNumbers
-    requires { Sized config source.geometry.width source.geometry.height
-        × (i < tiles_x_of config source.geometry.width) × (j < tiles_y_of config source.geometry.height) }
-    ensures { result ≡ numbers_in (pixel source.entry.pixels.now source.entry.geometry.stride)
-        (tile config source.entry.geometry.width source.entry.geometry.height i j) }
-{
-    let left = i * config.tile_width;
-    let top = j * config.tile_height;
-    let right = tile_end(source.geometry.width, config.tile_width, i);
-    let bottom = tile_end(source.geometry.height, config.tile_height, j);
-    TileNumbers::of_box(source, left, right, top, bottom)
+// A picture, and the settings of the grid whose tiles cover it.
+#[derive(Clone, Copy)]
+pub(crate) struct Tiling<'a> {
+    pub source: Gray8View<'a>,
+    pub config: TileThresholdConfig,
+    pub ghost sized: { Sized config source.geometry.width source.geometry.height },
 }
 
-// Gathers the numbers of every tile of a picture from `at` on, tile row after tile row.
-pub(crate) fn gather(
-    source: Gray8View<'_>,
-    config: TileThresholdConfig,
-    workspace: &mut [u64],
-    at: usize,
-)
-    requires { GatherReady
-        (record {
-          src = source.pixels.now;
-          source = source.geometry;
-          settings = config;
-          workspace = workspace.old;
-          at = at;
-        }) }
-    ensures { Gathers
-        (record {
-          src = source.entry.pixels.now;
-          source = source.entry.geometry;
-          settings = config;
-          workspace = workspace.old;
-          at = at;
-        })
-        workspace.new }
-{
-    let tiles_x = tiles_along(source.geometry.width, config.tile_width);
-    let tiles_y = tiles_along(source.geometry.height, config.tile_height);
-    for t in 0..tiles_x * tiles_y {
-        let numbers = tile_numbers(source, config, t % tiles_x, t / tiles_x);
-        numbers.store(workspace, at + 5 * t);
+impl<'a> Tiling<'a> {
+    // Checks the settings of a grid over a picture.
+    pub(crate) fn new(
+        source: Gray8View<'a>,
+        config: TileThresholdConfig,
+    ) -> Result<Self, ImgProcError>
+        ensures { MatchResult result
+            (λ t. (t.source ≡ source.entry) × (t.config ≡ config) × (first (grid_settings config) ≡ Ok tt))
+            (λ e. first (grid_settings config) ≡ Err e) }
+    {
+        crate::grid::check_settings(config)?;
+        Ok(Self { source, config })
+    }
+
+    // Counts the tiles along both sides.
+    pub(crate) fn counts(self) -> TileCounts
+        ensures { let t = self.entry in
+            result ≡ tile_counts t.config t.source.geometry.width t.source.geometry.height }
+    {
+        let geometry = self.source.geometry;
+        TileCounts {
+            tiles_x: tiles_along(geometry.width, self.config.tile_width),
+            tiles_y: tiles_along(geometry.height, self.config.tile_height),
+        }
+    }
+
+    // Counts all tiles.
+    pub(crate) fn total(self) -> usize
+        ensures { let t = self.entry in
+            (result ≡ tile_count t.config t.source.geometry.width t.source.geometry.height) × (result ≤ tiles_limit) }
+    {
+        let tiles = self.counts();
+        tiles.tiles_x * tiles.tiles_y
+    }
+
+    // Finds the pixels of tile (i, j).
+    fn tile(self, i: usize, j: usize) -> Area
+        requires { (i < tiles_x_of self.config self.source.geometry.width)
+            × (j < tiles_y_of self.config self.source.geometry.height) }
+        ensures area { let t = self.entry in
+            result ≡ tile t.config t.source.geometry.width t.source.geometry.height i j }
+        ensures within { Within result self.entry.source.geometry.width self.entry.source.geometry.height }
+    {
+        let geometry = self.source.geometry;
+        let config = self.config;
+        Area {
+            left: i * config.tile_width,
+            right: tile_last(geometry.width, config.tile_width, i),
+            top: j * config.tile_height,
+            bottom: tile_last(geometry.height, config.tile_height, j),
+        }
+    }
+
+    // Gathers the numbers of every tile from `at` on, tile row after tile row.
+    pub(crate) fn gather(self, workspace: &mut [u64], at: usize)
+        requires { gather_end
+            (record {
+              src = self.source.pixels.now;
+              source = self.source.geometry;
+              settings = self.config;
+              workspace = workspace.old;
+              at = at;
+            })
+            ≤ length workspace.old }
+        ensures { Gathers
+            (record {
+              src = self.entry.source.pixels.now;
+              source = self.entry.source.geometry;
+              settings = self.entry.config;
+              workspace = workspace.old;
+              at = at;
+            })
+            workspace.new }
+    {
+        let tiles_x = self.counts().tiles_x;
+        for t in 0..self.total() {
+            let tile = self.tile(t % tiles_x, t / tiles_x);
+            let numbers = TileNumbers::of_area(self.source, tile);
+            numbers.store(workspace, at + 5 * t);
+        }
     }
 }

@@ -1,18 +1,7 @@
 // Erodes, dilates, opens and closes packed planes of one lent workspace, at offsets: sweeps the rows, then the columns,
-// each with its own kernel. Every comparison of samples is in `sweeps` and is counted. The cores carry the tally by
-// value, and one tally is lent to every sweep of an operation.
-ghost use Rattle.imgproc.specs.Morphology.{opened, closed};
-ghost use Rattle.imgproc.specs.Sweeps.{
-  SweepReady,
-  RowsSwept,
-  ColumnsSwept,
-  MorphReady,
-  Morphed,
-  PairReady,
-  PairMorphed,
-  TwiceReady,
-  TwiceMorphed,
-};
+// each with its own kernel. Every comparison of samples is made by `Tally::extreme`, from `sweeps`, and is counted. The
+// cores carry the tally by value, and one tally is lent to every sweep of an operation.
+ghost use Rattle.imgproc.specs.Sweeps.{SweepReady, RowsSwept, ColumnsSwept, MorphReady, Morphed, PairReady, PairMorphed};
 
 use crate::morphology::sweeps::{Planes, running_extremum_1d, sweep_strip};
 use crate::morphology::tally::Tally;
@@ -96,9 +85,9 @@ pub(crate) fn morph_rect_into<const LEAST: bool>(
     t
 }
 
-// Erodes or dilates, then erodes or dilates what that left: erodes where FIRST or SECOND is true.
-// Lends one tally to all four sweeps.
-fn morph_rect_twice<const FIRST: bool, const SECOND: bool>(
+// Erodes or dilates, then erodes or dilates what that left: erodes where FIRST or SECOND is true. So <true, false>
+// opens, and <false, true> closes. Lends one tally to all four sweeps.
+pub(crate) fn morph_rect_twice<const FIRST: bool, const SECOND: bool>(
     tally: Tally,
     ws: &mut [u8],
     planes: Planes,
@@ -112,20 +101,4 @@ fn morph_rect_twice<const FIRST: bool, const SECOND: bool>(
     morph_rect::<FIRST>(&mut t, ws, planes, kernel_width, kernel_height);
     morph_rect::<SECOND>(&mut t, ws, planes.in_place(), kernel_width, kernel_height);
     t
-}
-
-// Opens: erodes, then dilates what that left.
-pub(crate) fn open_rect_into(tally: Tally, ws: &mut [u8], planes: Planes, kernel: usize) -> Tally
-    requires { TwiceReady tally ws.old planes kernel }
-    ensures { TwiceMorphed opened tally ws.old planes kernel result ws.new }
-{
-    morph_rect_twice::<true, false>(tally, ws, planes, kernel, kernel)
-}
-
-// Closes: dilates, then erodes what that left.
-pub(crate) fn close_rect_into(tally: Tally, ws: &mut [u8], planes: Planes, kernel: usize) -> Tally
-    requires { TwiceReady tally ws.old planes kernel }
-    ensures { TwiceMorphed closed tally ws.old planes kernel result ws.new }
-{
-    morph_rect_twice::<false, true>(tally, ws, planes, kernel, kernel)
 }

@@ -28,7 +28,8 @@ use crate::reach;
 
 // Tells a sweep where it works, by offsets of one workspace: it reads the plane at `from`, writes the plane at `to`,
 // and has its scratch at `spare`. Each plane has `height` rows of `width` samples.
-// The tally and the kernel stay apart: a tally in a lent struct slows the loops, and one erosion has two kernels.
+// The tally and the kernel stay parameters beside it: behind a `&mut` of a struct the loops over a tally do not
+// vectorise, the rules of the tally follow it as a parameter alone, and one erosion has two kernels.
 #[derive(Clone, Copy)]
 pub(crate) struct Planes {
     pub from: usize,

@@ -1,11 +1,11 @@
 // Judges each pixel of an opened picture dark, light or skipped, and counts the three.
 ghost use Rattle.std.specs.Prelude.{◌≡◌, ◌*◌, ◌<◌, length};
-ghost use Rattle.image.specs.Layout.{Kept};
 ghost use Rattle.image.specs.Plane.{part};
+ghost use Rattle.imgproc.specs.Calls.{Paired};
 ghost use Rattle.imgproc.specs.Reading.{judged_over, byte_of};
 ghost use Rattle.imgproc.specs.ReadingSteps.{Counted, JudgeReady, JudgeRoom, Room, RowJudged, PictureJudged};
 
-use crate::grid::tiles::tiles_along;
+use crate::grid::tiles::{Tiling, tiles_along};
 use crate::reading::config::ReadingConfig;
 use crate::threshold::tables::build_tables;
 use crate::threshold::{SauvolaConfig, Thresholds};
@@ -54,6 +54,7 @@ impl Judged {
 }
 
 // An opened picture, its tables, which stand in a workspace from `at` on, the skips of its tiles, and the settings.
+// `pixel` makes its `Thresholds`: held here, it would carry the settings a second time, and a fact that both agree.
 #[derive(Clone, Copy)]
 struct Judge<'a, 't> {
     opened: Gray8View<'a>,
@@ -86,7 +87,7 @@ impl<'a, 't> Judge<'a, 't> {
         };
         let threshold = thresholds.at_pixel(x, y);
         let place = y * width + x;
-        if self.opened.pixels[place] as u64 <= threshold {
+        if u64::from(self.opened.pixels[place]) <= threshold {
             Judgement::Dark
         } else {
             Judgement::Light
@@ -111,9 +112,7 @@ impl<'a, 't> Judge<'a, 't> {
 
     // Judges and counts every pixel of the picture, row by row into the destination.
     fn rows(self, dst: &mut [u8], dst_geometry: Geometry) -> Judged
-        requires { let g = self.opened.geometry in
-            Kept (length dst.old) dst_geometry
-            × ((dst_geometry.width ≡ g.width) × (dst_geometry.height ≡ g.height)) }
+        requires { Paired (length self.opened.pixels.now) self.opened.geometry (length dst.old) dst_geometry }
         ensures { let o = self.entry.opened in
             PictureJudged self.entry.config o.geometry o.pixels.now
             dst.old
@@ -142,8 +141,7 @@ pub(crate) fn judge_picture(
     dst_geometry: Geometry,
 ) -> Judged
     requires ready { JudgeRoom packed config marks bytes.now u64s.old }
-    requires destination { Kept (length dst.old) dst_geometry
-        × ((dst_geometry.width ≡ packed.width) × (dst_geometry.height ≡ packed.height)) }
+    requires destination { Paired (packed.width * packed.height) packed (length dst.old) dst_geometry }
     ensures { PictureJudged config packed (part 0 (packed.width * packed.height) bytes.now)
         dst.old
         dst_geometry
@@ -151,14 +149,15 @@ pub(crate) fn judge_picture(
         dst.new }
 {
     let plane = packed.width * packed.height;
-    let grid = config.grid;
-    let count = tiles_along(packed.width, grid.tile_width)
-        * tiles_along(packed.height, grid.tile_height);
-    let end = marks + count;
     let opened = Gray8View {
         pixels: &bytes[..plane],
         geometry: packed,
     };
+    let tiling = Tiling {
+        source: opened,
+        config: config.grid,
+    };
+    let end = marks + tiling.total();
     build_tables(opened, u64s, 0);
     let judge = Judge {
         opened,

@@ -4,6 +4,7 @@ ghost use Rattle.std.specs.Prelude.{◌≡◌, ◌+◌, ◌≤◌, ◌<◌, leng
 ghost use Rattle.imgproc.specs.Refusals.{table_entries};
 ghost use Rattle.imgproc.specs.Tables.{TableRows, Tables, Corners, corner_sum};
 
+use crate::reach::Area;
 use image::Gray8View;
 
 // Writes the row of zeros above the picture, in both tables.
@@ -34,7 +35,7 @@ fn table_row(source: Gray8View<'_>, y: usize, workspace: &mut [u64], at: usize)
     let mut sum_sq: u64 = 0;
     for (i, pixel) in source.row(y).iter().enumerate() {
         let x = i + 1;
-        let value = *pixel as u64;
+        let value = u64::from(*pixel);
         sum += value;
         sum_sq += value * value;
         let s = workspace[at + (above + x)] + sum;
@@ -44,7 +45,7 @@ fn table_row(source: Gray8View<'_>, y: usize, workspace: &mut [u64], at: usize)
     }
 }
 
-// Builds both tables of a picture that its slice holds, from `at` on.
+// Builds both tables of a picture, from `at` on.
 pub(crate) fn build_tables(source: Gray8View<'_>, workspace: &mut [u64], at: usize)
     requires { at + table_entries source.geometry.width source.geometry.height ≤ length workspace.old }
     ensures { Tables source.entry.pixels.now source.entry.geometry at workspace.new }
@@ -55,21 +56,15 @@ pub(crate) fn build_tables(source: Gray8View<'_>, workspace: &mut [u64], at: usi
     }
 }
 
-// Sums a rectangle by the four corners of the table that starts at `base`.
-pub(crate) fn rect_sum(
-    workspace: &[u64],
-    base: usize,
-    wide: usize,
-    x0: usize,
-    y0: usize,
-    x1: usize,
-    y1: usize,
-) -> u64
-    requires { Corners workspace.now base wide x0 y0 x1 y1 }
-    ensures { result ≡ corner_sum workspace.now base wide x0 y0 x1 y1 }
+// Sums the pixels of an area by the four corners that it has in the table which starts at `base`.
+pub(crate) fn rect_sum(workspace: &[u64], base: usize, wide: usize, area: Area) -> u64
+    requires { Corners workspace.now base wide area.left area.top (area.right + 1) (area.bottom + 1) }
+    ensures { result ≡ corner_sum workspace.now base wide area.left area.top (area.right + 1) (area.bottom + 1) }
 {
-    let top = y0 * wide;
-    let bottom = y1 * wide;
+    let x0 = area.left;
+    let x1 = area.right + 1;
+    let top = area.top * wide;
+    let bottom = area.bottom * wide + wide;
     let plus = workspace[base + (bottom + x1)] + workspace[base + (top + x0)];
     let minus = workspace[base + (bottom + x0)] + workspace[base + (top + x1)];
     plus - minus

@@ -1,5 +1,5 @@
--- A value rounded to the nearest whole number, and cut to a byte, is the number of i below 255 with v ≥ i + 0.5. Assumes nothing.
-use mathlib.Core.Path.{◌≡◌, refl, sym, ap, ◌∙◌}
+-- A value rounded to the nearest whole number, and cut to a byte, is the number of i below 255 with v ≥ i + 0.5; a sum above 255 is cut to it. Assumes nothing.
+use mathlib.Core.Path.{◌≡◌, refl, sym, ap, ◌∙◌, subst}
 use mathlib.Core.Bool.{Bool, true, false, cond, ◌&&◌, ◌||◌, true≢false}
 use mathlib.Core.Logic.{⊎_elim}
 use Prim.Native.Nat.{ℕ, zero, suc, ◌+◌, ◌*◌, ◌/◌, ◌^◌, ◌≤◌, ◌<◌, min}
@@ -16,8 +16,9 @@ use native.Mathlib.Nat.{
 }
 use native.Mathlib.Decide.{dec_le, dec_lt}
 use native.Mathlib.Omega.{arith}
-use lib.Dec.{T, ltb, eqb}
-use lib.IntN.{ℤ, negsuc}
+use lib.Dec.{T, ltb, eqb, ltb→lt}
+use lib.IntN.{ℤ, pos, negsuc}
+use lib.Signed.{lt_z}
 use lib.Ieee.{Float, nan, inf, fin, binary64, up, down, odd, units, round, lt, eq, le, to_unsigned}
 use lib.Ieee.Back.{round_whole}
 use lib.Ieee.Exact.{HasValue}
@@ -26,7 +27,7 @@ use lib.Ieee.Order.{round_mono}
 use borrow.Author.Tests.{lt-ltb, le-ltb, eq-eqb, ne_eqb}
 use Rattle.std.specs.Float.{float_round, round_with, ratio_round_half_up}
 use Rattle.imgproc.specs.Fold.{bit}
-use Rattle.imgproc.specs.Grid.{half_past, count_to}
+use Rattle.imgproc.specs.Grid.{half_past, count_to, clipped}
 
 -- ---- tests of two sizes
 
@@ -167,3 +168,8 @@ rounded_is (fin false n d) =
     let h = half_up n d in
     cut h
     ∙ count_is (fin false n d) (min h 255) (omega arith) (λ i p. reached n d i (omega arith)) (λ i p q. passed n d i (omega arith))
+
+-- a sum above 255 is clipped to 255
+pub high : (s : ℤ) → lt_z (pos 255) s ≡ true → 255 ≡ clipped s
+high (pos n) h = let l = ltb→lt 255 n (subst T (sym h) tt) in omega arith
+high (negsuc n) h = absurd (true≢false (sym h))

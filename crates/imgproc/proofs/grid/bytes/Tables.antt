@@ -11,7 +11,7 @@ use Rattle.imgproc.specs.declared.grid.config.TileThresholdConfig.{TileThreshold
 use Rattle.imgproc.specs.declared.grid.tiles.TileNumbers.{TileNumbers}
 use Rattle.imgproc.specs.Fold.{bit}
 use Rattle.imgproc.specs.Grid.{tiles_x_of, tiles_y_of, around, skip_of, threshold_of, thresholds, skips}
-use Rattle.imgproc.specs.Tiles.{numbers_in, GatherLent, GatherReady, Gathers, joined_around, each_tile, threshold_by, skip_by}
+use Rattle.imgproc.specs.Tiles.{Sized, numbers_in, GatherLent, Gathers, joined_around, each_tile, threshold_by, skip_by}
 use Rattle.imgproc.proofs.grid.tiles.Counts.{column, row}
 use Rattle.imgproc.proofs.grid.tiles.Numbers.{same_in}
 use Rattle.imgproc.proofs.grid.tiles.Neighbours.{around_joined, some_around}
@@ -22,7 +22,7 @@ tabulate_same f g n e =
     (λ i h. let t : i < n = omega (arith, length-tabulate f n) in get_d_tabulate f n i t ∙ e i t ∙ sym (get_d_tabulate g n i t))
 
 -- the numbers were gathered from a picture, and stand in ws
-module _ (lent : GatherLent) {ws : List ℕ} (ready : GatherReady lent) (gathers : Gathers lent ws) where
+module _ (lent : GatherLent) {ws : List ℕ} (z : Sized lent.settings lent.source.width lent.source.height) (gathers : Gathers lent ws) where
   abbrev g : TileThresholdConfig
   g = lent.settings
 
@@ -42,7 +42,6 @@ module _ (lent : GatherLent) {ws : List ℕ} (ready : GatherReady lent) (gathers
   joined_picture : (i j : ℕ) → i < tiles_x_of g w → j < tiles_y_of g h
       → joined_around g.neighborhood_radius (tiles_x_of g w) (tiles_y_of g h) lent.at ws i j ≡ numbers_in (pixel p w) (around g w h i j)
   joined_picture i j I J =
-      let z = ready.sized in
       let got = gathers.gathered in
       around_joined f g w h lent.at ws z got i j I J
       ∙ same_in f (pixel p w) (around g w h i j) (some_around f g w h lent.at ws z got i j I J)
@@ -51,7 +50,6 @@ module _ (lent : GatherLent) {ws : List ℕ} (ready : GatherReady lent) (gathers
   bytes_are : (by : TileNumbers → ℕ) (f : ℕ → ℕ → ℕ) → ((i j : ℕ) → by (numbers_in (pixel p w) (around g w h i j)) ≡ f i j)
       → each_tile by g w h lent.at ws ≡ tabulate (λ t. f (t % tiles_x_of g w) (t / tiles_x_of g w)) (tiles_x_of g w * tiles_y_of g h)
   bytes_are by f e =
-      let z = ready.sized in
       tabulate_same _ _ (tiles_x_of g w * tiles_y_of g h)
       (λ t T. ap by (joined_picture (t % tiles_x_of g w) (t / tiles_x_of g w) (column z refl refl t) (row z refl refl t T)) ∙ e (t % tiles_x_of g w) (t / tiles_x_of g w))
 

@@ -12,7 +12,7 @@ use Rattle.image.specs.Plane.{pixel}
 use Rattle.imgproc.specs.declared.grid.config.TileThresholdConfig.{TileThresholdConfig}
 use Rattle.imgproc.specs.declared.grid.tiles.TileNumbers.{TileNumbers}
 use Rattle.imgproc.specs.Grid.{tiles_x_of, tiles_y_of}
-use Rattle.imgproc.specs.Tiles.{numbers_in, tile, entry, Stores, GatherLent, GatherReady, Gathers}
+use Rattle.imgproc.specs.Tiles.{numbers_in, tile, entry, Stores, GatherLent, gather_end, Gathers}
 use Rattle.imgproc.proofs.grid.tiles.Numbers.{same}
 
 -- entries that hold the same five numbers
@@ -55,17 +55,17 @@ stored_more n at t ws a b v s e byte p = record {
 }
 
 -- at the end every tile's numbers are there
-pub gathered_all : (lent : GatherLent) (t : ℕ) (after : List ℕ) → GatherReady lent
+pub gathered_all : (lent : GatherLent) (t : ℕ) (after : List ℕ) → gather_end lent ≤ length lent.workspace
     → t ≡ tiles_x_of lent.settings lent.source.width * tiles_y_of lent.settings lent.source.height
     → StoredTo (tiles_of lent.src lent.source lent.settings) lent.at t lent.workspace after
     → Gathers lent after
-gathered_all lent t after ready e p =
+gathered_all lent t after fits e p =
     let s = lent.source in
     let g = lent.settings in
     record {
       long = p.long;
       gathered = record {
-        room = omega (arith, p.long, ready.room);
+        room = omega (arith, p.long, fits);
         bytes = λ i j I J.
             subst (λ (u : TileNumbers). u.maximum < 256) (sym (stands i j I J)) (p.bytes (j * tx + i) (number i j I J));
         each = λ i j I J.

@@ -5,4 +5,4 @@ use Rattle.imgproc.proofs.illumination.divide.Goals as goal
 
 pub returns : goal.returns
 unfolding quotient
-returns c = let e = rw c.max-denominator.ensures at c.min.ensures in omega (arith, e)
+returns c = let e = rw (c.from.ensures, c.from-2.ensures, c.from-3.ensures, c.max-denominator.ensures) at c.min.ensures in omega (arith, e)

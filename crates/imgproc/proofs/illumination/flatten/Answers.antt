@@ -4,4 +4,4 @@ use Rattle.imgproc.proofs.illumination.flatten.Goals as goal
 
 pub returns : goal.returns
 returns c =
-    flattened c.args.source.kept c.requires c.pack.ensures c.close_rect_into-raised.ensures c.divide_plane.ensures
+    flattened c.args.source.kept c.requires c.pack.ensures c.morph_rect_twice-raised.ensures c.divide_plane.ensures

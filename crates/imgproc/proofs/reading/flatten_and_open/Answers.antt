@@ -2,6 +2,6 @@
 use Rattle.imgproc.proofs.reading.Runs.{open_ready}
 use Rattle.imgproc.proofs.reading.flatten_and_open.Goals as goal
 
-pub open_rect_into-requires : goal.open_rect_into-requires
-open_rect_into-requires c =
+pub morph_rect_twice-requires : goal.morph_rect_twice-requires
+morph_rect_twice-requires c =
     open_ready c.args.source.kept.wide c.requires c.flatten-raised.ensures

@@ -29,24 +29,26 @@ returns-in_err-check_settings c =
     rw (passed _ c.from_residual-in_err-check_settings.ensures.1)
     (refused_by_settings (lent (goal.at.returns-in_err-check_settings c).Start) c.in_ok-source.ensures.2 (sym c.in_err-check_settings.ensures))
 
-pub check_room-requires : goal.check_room-requires
-check_room-requires c =
-    sized (lent (goal.at.check_room-requires c).Start) c.in_ok-source.ensures.2 (sym c.in_ok-check_settings.ensures)
+pub invariant_of-tiling : goal.invariant_of-tiling
+invariant_of-tiling c =
+    let s = c.in_ok-source.ensures in
+    record { sized = rw s.1 (sized (lent (goal.at.invariant_of-tiling c).Start) s.2 (sym c.in_ok-check_settings.ensures)) }
 
 pub returns-in_err-check_room : goal.returns-in_err-check_room
 returns-in_err-check_room c =
+    let s = c.in_ok-source.ensures in
     rw (passed _ c.from_residual-in_err-check_room.ensures.1)
     (refused_by_room (lent (goal.at.returns-in_err-check_room c).Start) c.in_ok-source.ensures.2 (sym c.in_ok-check_settings.ensures)
-    (sym c.in_err-check_room.ensures))
+    (sym (rw s.1 at c.in_err-check_room.ensures)))
 
 pub read_picture-requires : goal.read_picture-requires
 read_picture-requires c =
     let s = c.in_ok-source.ensures in
     rw (s.0, s.1)
-    (ready (lent (goal.at.read_picture-requires c).Start) s.2 (sym c.in_ok-check_settings.ensures) (sym c.in_ok-check_room.ensures))
+    (ready (lent (goal.at.read_picture-requires c).Start) s.2 (sym c.in_ok-check_settings.ensures) (sym (rw s.1 at c.in_ok-check_room.ensures)))
 
 pub returns : goal.returns
 returns c =
     let s = c.in_ok-source.ensures in
-    done (lent (goal.at.returns c).Start) s.2 (sym c.in_ok-check_settings.ensures) (sym c.in_ok-check_room.ensures)
+    done (lent (goal.at.returns c).Start) s.2 (sym c.in_ok-check_settings.ensures) (sym (rw s.1 at c.in_ok-check_room.ensures))
     (rw (s.0, s.1) at c.read_picture.ensures)

@@ -11,6 +11,6 @@ invariant-loop-t g l =
     l.bytes
     ≡ overwritten l.to
     (tabulate
-    (λ k. g.R.TileRule.byte_of l.rule (joined_around a.radius a.tiles_x a.tiles_y a.at a.workspace.now (k % a.tiles_x) (k / a.tiles_x)))
+    (λ k. g.R.TileRule.byte_of l.rule (joined_around a.radius a.tiles.tiles_x a.tiles.tiles_y a.at a.workspace.now (k % a.tiles.tiles_x) (k / a.tiles.tiles_x)))
     l.t)
     l.initial.bytes

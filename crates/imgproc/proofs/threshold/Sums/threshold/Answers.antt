@@ -6,4 +6,5 @@ use Rattle.imgproc.proofs.threshold.Sums.threshold.Goals as goal
 
 pub returns : goal.returns
 unfolding threshold
-returns c = ap₂ (λ (m r : ℕ). m * scale c.args.config r / 1000) c.mean.ensures.0 c.spread.ensures.0
+returns c =
+    rw (c.from-k.ensures, c.from-range.ensures) (ap₂ (λ (m r : ℕ). m * scale c.args.config r / 1000) c.mean.ensures.0 c.spread.ensures.0)

@@ -15,12 +15,12 @@ new c = let s = c.args.self.source in let g = s.geometry in binarized c.args.sel
 
 -- the destination's rows are as wide as the picture
 wide : (s : Start) → (0 < s.args.self.source.geometry.width) × (s.args.self.source.geometry.width ≤ s.args.dst_geometry.stride)
-wide s = (s.args.self.source.kept.wide, omega (arith, s.requires.0.stride, s.requires.1.0))
+wide s = (s.args.self.source.kept.wide, omega (arith, s.requires.to.stride, s.requires.wide))
 
 -- row y of the destination
 within : (t : In-loop-y)
     → t.loop-y.y * t.args.dst_geometry.stride + t.args.self.source.geometry.width ≤ length t.args.dst.now
-within t = row_within_as t.requires.0 t.requires.1.0 t.requires.1.1 t.loop-y.y t.loop-y-test.true
+within t = row_within_as t.requires.to (sym t.requires.wide) (sym t.requires.high) t.loop-y.y t.loop-y-test.true
 
 pub loop-y-init : goal.loop-y-init
 loop-y-init c = rows_start (new (goal.at.loop-y-init c).Start) _ _ _ _

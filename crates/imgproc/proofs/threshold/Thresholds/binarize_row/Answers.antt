@@ -10,7 +10,7 @@ use Rattle.imgproc.specs.Tables.{pixels_of}
 use Rattle.image.specs.RowLaws.{row_long, row_picture}
 use Rattle.imgproc.proofs.threshold.Verdicts.{verdict_dark, verdict_light}
 use Rattle.imgproc.proofs.threshold.Thresholds.binarize_row.Goals as goal
-use Rattle.imgproc.proofs.threshold.Thresholds.binarize_row.Goals.{In-loop-x, then-value-at_pixel, else-value-at_pixel}
+use Rattle.imgproc.proofs.threshold.Thresholds.binarize_row.Goals.{In-loop-x, then-from-at_pixel, else-from-at_pixel}
 
 -- the row that was handed out has the width, and its byte at x is pixel (x, y)
 inside : (t : In-loop-x) → t.loop-x.x < t.args.self.source.geometry.width
@@ -40,9 +40,9 @@ loop-x-preserved c =
     let t = (goal.at.loop-x-preserved c).In-loop-x in
     below_more _ x (λ k m. get_or-set_other c.loop-x.out x k _ 0 (ne_of_lt m) ∙ c.loop-x.invariant k m)
     (get_or-set_same c.loop-x.out x _ 0 (omega (arith, inside t))
-    ∙ (elim c.if-value-at_pixel.branch [
-      | then-value-at_pixel w ↦ w.out-is ∙ verdict_dark s.config g.width g.height p x c.args.y (value-is t) c.at_pixel.ensures w.if-value-at_pixel.true
-      | else-value-at_pixel w ↦ w.out-is ∙ verdict_light s.config g.width g.height p x c.args.y (value-is t) c.at_pixel.ensures w.if-value-at_pixel.false
+    ∙ (elim c.if-from-at_pixel.branch [
+      | then-from-at_pixel w ↦ w.out-is ∙ verdict_dark s.config g.width g.height p x c.args.y (c.from.ensures ∙ value-is t) c.at_pixel.ensures w.if-from-at_pixel.true
+      | else-from-at_pixel w ↦ w.out-is ∙ verdict_light s.config g.width g.height p x c.args.y (c.from.ensures ∙ value-is t) c.at_pixel.ensures w.if-from-at_pixel.false
     ]))
 
 pub returns : goal.returns

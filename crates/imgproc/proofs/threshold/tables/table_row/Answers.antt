@@ -1,7 +1,7 @@
 use Prim.Native.Nat.{ℕ, ◌+◌, ◌*◌, ◌≤◌, ◌<◌}
 use native.Mathlib.Nat.{mul-le-mul, le_trans, le_refl}
 use native.Mathlib.Omega.{arith}
-use mathlib.Core.Path.{◌≡◌}
+use mathlib.Core.Path.{◌≡◌, ◌∙◌}
 use lib.ListN.{get_or, length-set}
 use Rattle.image.specs.Layout.{side_limit}
 use Rattle.image.specs.RowLaws.{row_long, row_picture}
@@ -21,19 +21,17 @@ inside t =
     omega (arith, row_long s.pixels.now s.geometry s.kept t.args.y t.requires.0 t.row-pixel-items.ensures.bytes, t.loop-i-test.true)
 
 -- the byte at hand is pixel (i, y)
-value-is : (t : In-loop-i)
-    → get_or t.row-pixel-items.result.now t.loop-i.i 0
-    ≡ pixels_of t.args.source.pixels.now t.args.source.geometry t.loop-i.i t.args.y
-value-is t =
+value-is : (t : In-loop-i) {v : ℕ} → v ≡ get_or t.row-pixel-items.result.now t.loop-i.i 0
+    → v ≡ pixels_of t.args.source.pixels.now t.args.source.geometry t.loop-i.i t.args.y
+value-is t e =
     let s = t.args.source in
-    row_picture s.pixels.now s.geometry s.kept t.args.y t.requires.0 t.row-pixel-items.ensures.bytes t.loop-i.i (inside t)
+    e ∙ row_picture s.pixels.now s.geometry s.kept t.args.y t.requires.0 t.row-pixel-items.ensures.bytes t.loop-i.i (inside t)
 
 -- it and its square are small
-value-small : (t : In-loop-i)
-    → let v = get_or t.row-pixel-items.result.now t.loop-i.i 0 in (v ≤ 255) × (v * v ≤ 65025)
-value-small t =
-    let v = get_or t.row-pixel-items.result.now t.loop-i.i 0 in
-    let b : v ≤ 255 = omega (arith, t.type_inv.pixel-items t.loop-i.i) in
+value-small : (t : In-loop-i) {v : ℕ} → v ≡ get_or t.row-pixel-items.result.now t.loop-i.i 0
+    → (v ≤ 255) × (v * v ≤ 65025)
+value-small t {v} e =
+    let b : v ≤ 255 = omega (arith, e, t.type_inv.pixel-items t.loop-i.i) in
     (b, mul-le-mul b b)
 
 -- so are the row's sums
@@ -73,24 +71,24 @@ pub loop-i-init : goal.loop-i-init
 loop-i-init c = row_start (pixels (goal.at.loop-i-init c).Start) _ _ _ _ c.requires.0 c.args.workspace.now c.requires.1.both
 
 pub overflow_add-sum : goal.overflow_add-sum
-overflow_add-sum c = omega (arith, value-small (goal.at.overflow_add-sum c).In-loop-i, sums-small (goal.at.overflow_add-sum c).In-loop-i)
+overflow_add-sum c = omega (arith, value-small (goal.at.overflow_add-sum c).In-loop-i c.from-value.ensures, sums-small (goal.at.overflow_add-sum c).In-loop-i)
 
 pub overflow_add-sum_sq : goal.overflow_add-sum_sq
-overflow_add-sum_sq c = omega (arith, value-small (goal.at.overflow_add-sum_sq c).In-loop-i, sums-small (goal.at.overflow_add-sum_sq c).In-loop-i)
+overflow_add-sum_sq c = omega (arith, value-small (goal.at.overflow_add-sum_sq c).In-loop-i c.from-value.ensures, sums-small (goal.at.overflow_add-sum_sq c).In-loop-i)
 
 pub overflow_add-s-in-loop-i-2 : goal.overflow_add-s-in-loop-i-2
 overflow_add-s-in-loop-i-2 c =
-    let t = (goal.at.overflow_add-s-in-loop-i-2 c).In-loop-i in omega (arith, value-small t, sums-small t, above_small t)
+    let t = (goal.at.overflow_add-s-in-loop-i-2 c).In-loop-i in omega (arith, value-small t c.from-value.ensures, sums-small t, above_small t)
 
 pub overflow_add-q-in-loop-i-2 : goal.overflow_add-q-in-loop-i-2
 overflow_add-q-in-loop-i-2 c =
-    let t = (goal.at.overflow_add-q-in-loop-i-2 c).In-loop-i in omega (arith, value-small t, sums-small t, above_small t)
+    let t = (goal.at.overflow_add-q-in-loop-i-2 c).In-loop-i in omega (arith, value-small t c.from-value.ensures, sums-small t, above_small t)
 
 pub loop-i-preserved : goal.loop-i-preserved
 loop-i-preserved c =
     let l = c.loop-i in
     let t = (goal.at.loop-i-preserved c).In-loop-i in
-    row_step (pixels (goal.at.loop-i-preserved c).Start) _ _ _ _ c.requires.0 l.workspace _ _ _ l.invariant (inside t) _ (value-is t) (value-small t).0
+    row_step (pixels (goal.at.loop-i-preserved c).Start) _ _ _ _ c.requires.0 l.workspace _ _ _ l.invariant (inside t) _ (value-is t c.from-value.ensures) (value-small t c.from-value.ensures).0
 
 pub returns : goal.returns
 returns c =

@@ -10,7 +10,7 @@ use Rattle.imgproc.proofs.grid.table.TileTable.join_row.Goals.{Start}
 
 -- the numbers of the tiles of the row
 abbrev entries : Start → ℕ → TileNumbers
-entries s i = tile_entry s.args.self.at s.args.self.tiles_x s.args.self.workspace.now i s.args.j
+entries s i = tile_entry s.args.self.at s.args.self.tiles.tiles_x s.args.self.workspace.now i s.args.j
 
 pub loop-i-init : goal.loop-i-init
 loop-i-init c =

@@ -6,4 +6,4 @@ use Rattle.imgproc.proofs.grid.table.TileTable.join_row.Given as goal
 
 abbrev pub invariant-loop-i : goal.invariant-loop-i
 invariant-loop-i l =
-    l.numbers ≡ join_over (λ k. tile_entry l.self.at l.self.tiles_x l.self.workspace.now k l.j) l.from (l.i - 1)
+    l.numbers ≡ join_over (λ k. tile_entry l.self.at l.self.tiles.tiles_x l.self.workspace.now k l.j) l.from (l.i - 1)

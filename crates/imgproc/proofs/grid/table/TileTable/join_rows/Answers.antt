@@ -10,13 +10,13 @@ use Rattle.imgproc.proofs.grid.table.TileTable.join_rows.Goals.{Start}
 
 -- the numbers of tile row j, joined
 abbrev row : Start → ℕ → TileNumbers
-row s j = join_over (λ i. tile_entry s.args.self.at s.args.self.tiles_x s.args.self.workspace.now i j) s.args.from s.args.to
+row s j = join_over (λ i. tile_entry s.args.self.at s.args.self.tiles.tiles_x s.args.self.workspace.now i j) s.args.area.left s.args.area.right
 
 pub loop-j-init : goal.loop-j-init
 loop-j-init c =
     let s = (goal.at.loop-j-init c).Start in
-    let e : c.args.first + 1 - 1 ≡ c.args.first = omega arith in
-    c.join_row-numbers.ensures ∙ join_one (row s) c.args.first ∙ ap (join_over (row s) c.args.first) (sym e)
+    let e : c.args.area.top + 1 - 1 ≡ c.args.area.top = omega arith in
+    c.join_row-numbers.ensures ∙ join_one (row s) c.args.area.top ∙ ap (join_over (row s) c.args.area.top) (sym e)
 
 pub join-numbers-requires : goal.join-numbers-requires
 join-numbers-requires c =
@@ -24,8 +24,8 @@ join-numbers-requires c =
     let j = c.loop-j.j in
     sums_fit
     (subst Proper (sym c.loop-j.invariant)
-    (a.self.proper.each a.from a.to a.first (j - 1) c.requires.0 c.requires.1 (omega arith) (omega (arith, c.requires.3))))
-    (subst Proper (sym c.join_row.ensures) (row_proper a.self.proper a.from a.to j c.requires.0 c.requires.1 (omega (arith, c.requires.3))))
+    (a.self.proper.each a.area.left a.area.right a.area.top (j - 1) c.requires.some.across c.requires.right (omega arith) (omega (arith, c.requires.bottom))))
+    (subst Proper (sym c.join_row.ensures) (row_proper a.self.proper a.area.left a.area.right j c.requires.some.across c.requires.right (omega (arith, c.requires.bottom))))
 
 pub loop-j-preserved : goal.loop-j-preserved
 loop-j-preserved c =
@@ -34,5 +34,5 @@ loop-j-preserved c =
     let e : j + 1 - 1 ≡ j = omega arith in
     c.join-numbers.ensures
     ∙ ap₂ joined c.loop-j.invariant c.join_row.ensures
-    ∙ join_next (row s) c.args.first j (omega arith)
-    ∙ ap (join_over (row s) c.args.first) (sym e)
+    ∙ join_next (row s) c.args.area.top j (omega arith)
+    ∙ ap (join_over (row s) c.args.area.top) (sym e)

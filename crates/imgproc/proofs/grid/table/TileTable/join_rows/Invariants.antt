@@ -6,4 +6,4 @@ use Rattle.imgproc.proofs.grid.table.TileTable.join_rows.Given as goal
 
 abbrev pub invariant-loop-j : goal.invariant-loop-j
 invariant-loop-j l =
-    l.numbers ≡ joined_rows l.self.at l.self.tiles_x l.self.workspace.now l.from l.to l.first (l.j - 1)
+    l.numbers ≡ joined_rows l.self.at l.self.tiles.tiles_x l.self.workspace.now l.area.left l.area.right l.area.top (l.j - 1)

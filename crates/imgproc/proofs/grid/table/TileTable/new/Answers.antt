@@ -5,7 +5,8 @@ use Rattle.imgproc.proofs.grid.table.TileTable.new.Goals as goal
 pub invariant_of-result : goal.invariant_of-result
 invariant_of-result c =
     let a = c.args in
+    let t = a.tiling in
     record {
-      proper = rw (c.tiles_along.ensures, c.tiles_along-2.ensures)
-          (proper_grid c.requires.1.picture a.config a.geometry.width a.geometry.height a.at a.workspace.now c.requires.0 c.requires.1.gathered);
+      proper = rw c.counts.ensures
+          (proper_grid c.requires.picture t.config t.source.geometry.width t.source.geometry.height a.at a.workspace.now t.sized c.requires.gathered);
     }

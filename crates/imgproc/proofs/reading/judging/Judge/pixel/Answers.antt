@@ -27,14 +27,14 @@ returns-then-self-tile-ne0 c =
     let s = c.args.self in
     is_skipped_lem s.opened.kept s.ready c.requires.0 c.requires.1 (λ z. c.if-self-tile-ne0.true (rw c.tiles_along-tiles_x.ensures z))
 
-pub returns-then-self-place : goal.returns-then-self-place
-returns-then-self-place c =
+pub returns-then-from-threshold : goal.returns-then-from-threshold
+returns-then-from-threshold c =
     let s = c.args.self in
     is_dark_lem s.opened.kept s.ready c.requires.0 c.requires.1
-    (rw c.tiles_along-tiles_x.ensures at c.if-self-tile-ne0.false) c.at_pixel-threshold.ensures c.if-self-place.true
+    (rw c.tiles_along-tiles_x.ensures at c.if-self-tile-ne0.false) c.at_pixel-threshold.ensures (rw c.from.ensures at c.if-from-threshold.true)
 
-pub returns-else-self-place : goal.returns-else-self-place
-returns-else-self-place c =
+pub returns-else-from-threshold : goal.returns-else-from-threshold
+returns-else-from-threshold c =
     let s = c.args.self in
     is_light_lem s.opened.kept s.ready c.requires.0 c.requires.1
-    (rw c.tiles_along-tiles_x.ensures at c.if-self-tile-ne0.false) c.at_pixel-threshold.ensures c.if-self-place.false
+    (rw c.tiles_along-tiles_x.ensures at c.if-self-tile-ne0.false) c.at_pixel-threshold.ensures (rw c.from.ensures at c.if-from-threshold.false)

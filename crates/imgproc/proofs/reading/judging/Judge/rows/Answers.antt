@@ -16,12 +16,12 @@ new c =
 
 -- the destination's rows are as wide as the picture
 wide : (c : Start) → (0 < c.args.self.opened.geometry.width) × (c.args.self.opened.geometry.width ≤ c.args.dst_geometry.stride)
-wide c = (c.args.self.opened.kept.wide, omega (arith, c.requires.0.stride, c.requires.1.0))
+wide c = (c.args.self.opened.kept.wide, omega (arith, c.requires.to.stride, c.requires.wide))
 
 -- row y of the destination
 within : (t : In-loop-y)
     → t.loop-y.y * t.args.dst_geometry.stride + t.args.self.opened.geometry.width ≤ length t.args.dst.now
-within t = row_within_as t.requires.0 t.requires.1.0 t.requires.1.1 t.loop-y.y t.loop-y-test.true
+within t = row_within_as t.requires.to (sym t.requires.wide) (sym t.requires.high) t.loop-y.y t.loop-y-test.true
 
 pub loop-y-init : goal.loop-y-init
 loop-y-init c =

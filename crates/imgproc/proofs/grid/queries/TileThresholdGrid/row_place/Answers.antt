@@ -1,13 +1,13 @@
 -- `row_place` meets its contract. Assumes nothing.
 use Rattle.std.proofs.Common.{arith, sym, ltb, ltb-true}
 use Rattle.imgproc.proofs.grid.queries.Grids.{Asked, asked, few_tiles, tile_row}
-use Rattle.imgproc.proofs.grid.queries.row_place.Goals as goal
-use Rattle.imgproc.proofs.grid.queries.row_place.Goals.{In_ok-check_query}
+use Rattle.imgproc.proofs.grid.queries.TileThresholdGrid.row_place.Goals as goal
+use Rattle.imgproc.proofs.grid.queries.TileThresholdGrid.row_place.Goals.{In_ok-check_query}
 
 -- the query was accepted
 accepted : (c : In_ok-check_query)
     → let a = c.args in
-    Asked a.grid a.len (ltb a.y a.grid.height)
+    Asked a.self a.len (ltb a.y a.self.height)
 accepted c = asked _ _ _ (sym c.in_ok-check_query.ensures)
 
 pub nonzero_div-result : goal.nonzero_div-result
