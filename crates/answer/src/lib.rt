@@ -166,6 +166,7 @@ pub fn read_start<R: io::Read>(input: &mut R, buffer: &mut [u8; INPUT]) -> io::R
 }
 
 // Gives the part of a buffer that was read: its first n bytes, or all of it where n is more.
+// n stays beside the buffer in public calls: they promise what they do for every n, also one above the buffer's length.
 pub fn read_part(buffer: &[u8; INPUT], n: usize) -> &[u8]
     ensures { ReadPart buffer.now n result.now }
 {

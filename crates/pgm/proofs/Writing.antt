@@ -1,23 +1,14 @@
 -- Laws of texts that are written one after another: each starts where the one before it ended, and a line is such a text.
 -- Assumes nothing.
-use Rattle.std.proofs.Common.{◌≡◌, refl, ap, ap₂, ◌∙◌, ℕ, ◌+◌, ◌/◌, ◌%◌, ◌≤◌, ◌<◌, List, [], ◌∷◌, ◌++◌, length, set, arith, zero-add, le-ltb, length-append}
+use Rattle.std.proofs.Common.{◌≡◌, refl, ap, ap₂, ◌∙◌, ℕ, ◌+◌, ◌≤◌, ◌<◌, List, [], ◌∷◌, ◌++◌, length, set, arith, zero-add, le-ltb, length-append}
 use Rattle.std.specs.Prelude.{Some}
 use Rattle.image.specs.Plane.{overwritten}
 use Rattle.image.specs.PlaneLaws.{length-overwritten}
 use Rattle.image.specs.PaintLaws.{overwritten_more}
 use Rattle.image.specs.WriteLaws.{set_is}
-use Rattle.pgm.specs.Decimal.{digit, decimal}
-use Rattle.pgm.specs.DecimalLaws.{decimal_one, decimal_more}
 use Rattle.pgm.specs.Line.{line_room, Writes}
 use Rattle.pgm.specs.LineLaws.{word_short}
 use Rattle.pgm.specs.Steps.{Puts}
-
--- a number below 10 has one digit, any other one more than number / 10
-pub one_long : (n : ℕ) → n < 10 → length (decimal n) ≡ 1
-one_long n s = ap length (decimal_one n s)
-
-pub more_long : (n : ℕ) → 10 ≤ n → length (decimal n) ≡ length (decimal (n / 10)) + 1
-more_long n l = ap length (decimal_more n l) ∙ length-append (decimal (n / 10)) (digit (n % 10) ∷ [])
 
 -- storing one byte writes a text of one
 pub puts_byte : (at v : ℕ) (d : List ℕ) → at < length d → Puts (v ∷ []) at d (at + 1) (set d at v)
@@ -53,4 +44,4 @@ written text before answer after s p =
     }
 
 -- what the functions that write need
-pub ruleset writing = (one_long, more_long, decimal_one, decimal_more, word_short, puts_byte, puts_length, puts_join, puts_then, written)
+pub ruleset writing = (word_short, puts_byte, puts_length, puts_join, puts_then, written)

@@ -2,6 +2,8 @@
 -- Assumes nothing.
 use Rattle.std.specs.Prelude.{ℕ, zero, suc, ◌+◌, ◌-◌, ◌*◌, ◌/◌, ◌%◌, ◌^◌, ◌≤◌, ◌<◌, ◌≡◌, refl, Bool, true, false, List, [], ◌∷◌, ◌++◌, ◌⊎◌, ltb, length}
 use Rattle.std.proofs.Common.{pow-suc, arith, sym, ap, ◌∙◌, inl, inr, ⊎_elim, length-append, lt-ltb, le-ltb, ltb-true, ltb-false}
+use Rattle.std.proofs.lemmas.Fmt.{decimal_by_steps}
+use Rattle.std.specs.Fmt
 use Rattle.pgm.specs.Decimal.{digit, digits_of, decimal}
 
 -- ---- the digits by cases
@@ -59,6 +61,12 @@ decimal_more n h = more n (n - 1) h (omega arith)
 pub decimal_two : (n : ℕ) → 10 ≤ n → n < 100 → decimal n ≡ digit (n / 10) ∷ digit (n % 10) ∷ []
 decimal_two n l h =
     decimal_more n l ∙ ap (λ (ds : List ℕ). ds ++ (digit (n % 10) ∷ [])) (decimal_one (n / 10) (omega arith))
+
+-- the text of a number of 64 bits is the one that std's `{}` writes
+pub decimal_of_std : (n : ℕ) → n < 2 ^ 64 → Fmt.decimal n ≡ decimal n
+decimal_of_std = decimal_by_steps (λ n ds. ds ≡ decimal n)
+    (λ n h. sym (decimal_one n h))
+    (λ n ds l e. ap (λ (cs : List ℕ). cs ++ (digit (n % 10) ∷ [])) e ∙ sym (decimal_more n l))
 
 -- a fact holds of every decimal text if it holds of one digit, and goes over to one more digit at the end
 module _ (P : ℕ → List ℕ → Type 0) (one : (n : ℕ) → n < 10 → P n (digit n ∷ []))

@@ -1,7 +1,7 @@
 -- What is parsed of an input is the one picture whose form it has; and the first bytes of an input, one
 -- more than the longest picture has, tell what is parsed of the whole. Assumes nothing.
-use Rattle.std.specs.Prelude.{ℕ, zero, suc, ◌+◌, ◌*◌, ◌/◌, ◌%◌, ◌≤◌, ◌<◌, ◌≡◌, refl, Bool, true, false, cond, List, [], ◌∷◌, ◌++◌, eqb, ltb, length, take, drop, Some, None, Result}
-use Rattle.std.proofs.Common.{arith, sym, ap, ap₂, subst, ◌∙◌, length-append, length-drop, take_all, length-take-le, eqb-true, eq-eqb, ltb-true, ltb-false}
+use Rattle.std.specs.Prelude.{ℕ, zero, suc, ◌+◌, ◌*◌, ◌/◌, ◌%◌, ◌≤◌, ◌<◌, ◌≡◌, refl, Bool, true, false, cond, ◌⊎◌, List, [], ◌∷◌, ◌++◌, eqb, ltb, length, take, drop, Some, None, Result}
+use Rattle.std.proofs.Common.{arith, sym, ap, ap₂, subst, ◌∙◌, inl, inr, ⊎_elim, length-append, length-drop, take_all, length-take-le, eqb-true, eq-eqb, ltb-true, ltb-false}
 use Rattle.std.proofs.lemmas.Bool.{eqb-false}
 use Rattle.image.specs.Answers.{accepted}
 use Rattle.image.specs.LayoutLaws.{both}
@@ -145,15 +145,33 @@ parsed_by by input r a = ap by (parsed_once input (parsed_of input) r (parsed_an
 
 -- ---- the first bytes are enough
 
--- the first m bytes of an input are parsed as the whole: they are all of it, or neither they nor the input are a picture
-pub start_parsed : (input : List ℕ) (m : ℕ) → input_limit ≤ m → parsed_of (take m input) ≡ parsed_of input
-start_parsed input m enough = go (ltb m (length input)) refl
-  where
-    go : (b : Bool) → ltb m (length input) ≡ b → parsed_of (take m input) ≡ parsed_of input
-    go false e = ap parsed_of (take_all m input (ltb-false m (length input) e))
-    go true e =
-        let l = ltb-true m (length input) e in
-        let t = length-take-le m input (omega arith) in
-        let none : Answers input None = λ w h f. omega (arith, form_short input w h f) in
-        let first : Answers (take m input) None = λ w h f. omega (arith, form_short (take m input) w h f, t) in
-        parsed_by (λ (r : Parsed). r) (take m input) None first ∙ sym (parsed_by (λ (r : Parsed). r) input None none)
+module _ (input : List ℕ) (m : ℕ) (enough : input_limit ≤ m) where
+  -- the first m bytes of an input are all of it, or neither they nor the input are a picture
+  start : (take m input ≡ input) ⊎ (Answers input None × Answers (take m input) None)
+  start = go (ltb m (length input)) refl
+    where
+      go : (b : Bool) → ltb m (length input) ≡ b →
+          (take m input ≡ input) ⊎ (Answers input None × Answers (take m input) None)
+      go false e = inl (take_all m input (ltb-false m (length input) e))
+      go true e =
+          let l = ltb-true m (length input) e in
+          let t = length-take-le m input (omega arith) in
+          inr (
+            (λ w h f. omega (arith, form_short input w h f)),
+            (λ w h f. omega (arith, form_short (take m input) w h f, t)),
+          )
+
+  -- so anything that is made of an input and what is parsed of it, and is the same for all inputs that are no picture,
+  -- is that of the first bytes
+  pub start_by : {A : Type 0} (by : Parsed → List ℕ → A) → ((a b : List ℕ) → by None a ≡ by None b) →
+      by (parsed_of (take m input)) (take m input) ≡ by (parsed_of input) input
+  start_by by same =
+      ⊎_elim (λ e. ap (λ (l : List ℕ). by (parsed_of l) l) e)
+      (λ none.
+      parsed_by (λ (r : Parsed). by r (take m input)) (take m input) None none.1 ∙ same (take m input) input
+      ∙ sym (parsed_by (λ (r : Parsed). by r input) input None none.0))
+      start
+
+  -- and the first bytes are parsed as the whole
+  pub start_parsed : parsed_of (take m input) ≡ parsed_of input
+  start_parsed = start_by (λ (r : Parsed) (l : List ℕ). r) (λ a b. refl)

@@ -12,6 +12,7 @@ ghost use Rattle.pgm.specs.Steps.{NoSide, Sided, Puts};
 mod picture;
 
 use image::Refusal;
+use itoa::Buffer;
 pub use picture::{Malformed, Picture};
 
 impl Refusal for Malformed {
@@ -110,44 +111,28 @@ pub fn refused_line(number: u32, out: &mut [u8]) -> Option<usize>
     if out.len() < LINE_ROOM {
         return None;
     }
-    let at = put_text(out, b"refused ");
+    let at = put_text(out, 0, b"refused ");
     Some(put_field(out, at, u64::from(number), b'\n'))
 }
 
-// Writes a text at the start of a buffer, and answers the place after it.
-fn put_text(out: &mut [u8], text: &[u8]) -> usize
-    requires { length text.now ≤ length out.old }
-    ensures { Puts text.now 0 out.old result out.new }
+// Writes a text at a place, and answers the place after it.
+fn put_text(out: &mut [u8], at: usize, text: &[u8]) -> usize
+    requires { at + length text.now ≤ length out.old }
+    ensures { Puts text.now at out.old result out.new }
 {
-    out[..text.len()].copy_from_slice(text);
-    text.len()
+    out[at..at + text.len()].copy_from_slice(text);
+    at + text.len()
 }
 
 // Writes a number and the byte that follows it at a place, and answers the place after them. A number has at most 20
-// digits.
+// digits. std's `write!` promises a text only where it answers Ok, and nothing promises that it does.
 #[tactic(auto, using(crate::proofs::Writing::writing))]
 fn put_field(out: &mut [u8], at: usize, number: u64, end: u8) -> usize
     requires { at + 21 ≤ length out.old }
     ensures puts { Puts (decimal number ++ (end ∷ [])) at out.old result out.new }
     ensures near { result ≤ at + 21 }
 {
-    let next = put_number(out, at, number);
+    let next = put_text(out, at, Buffer::new().format(number).as_bytes());
     out[next] = end;
     next + 1
-}
-
-// Writes the decimal text of a number at a place, and answers the place after it. std's `write!` promises the text only
-// where it answers Ok, and nothing promises that it does: a line could be lost.
-#[tactic(auto, using(crate::proofs::Writing::writing))]
-fn put_number(out: &mut [u8], at: usize, number: u64) -> usize
-    requires { at + length (decimal number) ≤ length out.old }
-    ensures { Puts (decimal number) at out.old result out.new }
-{
-    if number < 10 {
-        out[at] = b'0' + number as u8;
-        return at + 1;
-    }
-    let last = put_number(out, at, number / 10);
-    out[last] = b'0' + (number % 10) as u8;
-    last + 1
 }

@@ -6,7 +6,7 @@ use std::iter;
 use std::marker::PhantomData;
 
 // An element of a lent slice, which a state of the noise can give.
-pub trait Element: PartialEq + Drop {
+pub(crate) trait Element: PartialEq + Drop {
     fn from_state(state: u32) -> Self;
 }
 
@@ -49,7 +49,7 @@ impl<T: Element> Iterator for Noise<T> {
 }
 
 // Makes the noise of a seed, of a length.
-pub fn make_noise<T: Element>(
+pub(crate) fn make_noise<T: Element>(
     alloc: Global,
     seed: u32,
     length: usize,
@@ -58,7 +58,7 @@ pub fn make_noise<T: Element>(
 }
 
 // Tests whether a slice holds the noise of a seed.
-pub fn is_noise<T: Element>(data: &[T], seed: u32) -> bool {
+pub(crate) fn is_noise<T: Element>(data: &[T], seed: u32) -> bool {
     data.iter()
         .zip(Noise::new(seed))
         .all(|(held, made)| *held == made)
@@ -66,14 +66,14 @@ pub fn is_noise<T: Element>(data: &[T], seed: u32) -> bool {
 
 // What a slice of bytes holds: the numbers that a section of the list gives, or the noise of a seed.
 #[derive(Clone, Copy)]
-pub enum Content<'a> {
+pub(crate) enum Content<'a> {
     Listed(&'a [usize]),
     Noise(u32),
 }
 
 impl<'a> Content<'a> {
     // Gives what a section stands for. One with no numbers stands for noise.
-    pub fn of(section: &'a [usize], seed: u32) -> Content<'a> {
+    pub(crate) fn of(section: &'a [usize], seed: u32) -> Content<'a> {
         if section.is_empty() {
             Content::Noise(seed)
         } else {
@@ -82,7 +82,7 @@ impl<'a> Content<'a> {
     }
 
     // Makes a slice of a length. It has zeros where its section ends before it.
-    pub fn make(self, alloc: Global, length: usize) -> Result<Vec<u8>, AllocError> {
+    pub(crate) fn make(self, alloc: Global, length: usize) -> Result<Vec<u8>, AllocError> {
         match self {
             Content::Noise(seed) => make_noise(alloc, seed, length),
             Content::Listed(numbers) => numbers
@@ -94,8 +94,8 @@ impl<'a> Content<'a> {
         }
     }
 
-    // Tests whether a slice holds this, and no more and no less.
-    pub fn is(self, data: &[u8]) -> bool {
+    // Tests whether a slice holds this. A listed one has to be as long.
+    pub(crate) fn is(self, data: &[u8]) -> bool {
         match self {
             Content::Noise(seed) => is_noise(data, seed),
             Content::Listed(numbers) => data
@@ -108,10 +108,10 @@ impl<'a> Content<'a> {
 
 // What a call is lent: a source, two destinations, a byte workspace and a u64 workspace.
 #[derive(Drop)]
-pub struct Lent {
-    pub from: Vec<u8>,
-    pub to: Vec<u8>,
-    pub other: Vec<u8>,
-    pub bytes: Vec<u8>,
-    pub u64s: Vec<u64>,
+pub(crate) struct Lent {
+    pub(crate) from: Vec<u8>,
+    pub(crate) to: Vec<u8>,
+    pub(crate) other: Vec<u8>,
+    pub(crate) bytes: Vec<u8>,
+    pub(crate) u64s: Vec<u64>,
 }

@@ -30,9 +30,10 @@ fn row_mut(g: Geometry, y: usize, from: &[u8], to: &mut [u8]) -> Answer {
 }
 
 // Makes the call of the first number. These numbers stand in the lists, and here alone: an enum of the calls would only
-// repeat the names of the functions. The program's answer has no number: its list says whether the call leaves all but
-// the line as it was. A number with no call is refused by 999, which no call answers.
-pub fn call(f: Numbers, lent: &mut Lent) -> Answer {
+// repeat the names of the functions. Call 20, the program's answer, returns no refusal's number. Its list gives one
+// itself, and any but 0 says that all but the line stays as it was. A number with no call is refused by 999, which no
+// call answers.
+pub(crate) fn call(f: Numbers, lent: &mut Lent) -> Answer {
     let Lent {
         from,
         to,
@@ -66,6 +67,7 @@ pub fn call(f: Numbers, lent: &mut Lent) -> Answer {
         17 => told(grid.is_skip(from, k, y)),
         18 => told(grid.row_all_skip(from, y)),
         19 => told(reading::reading(from, g, to, h, settings::reading(f), bytes, u64s)),
+        // A line that does not fit has the length 0 in a list.
         20 => [
             line,
             answer::answer(from, to, bytes, u64s, other).unwrap_or(0),

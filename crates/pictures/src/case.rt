@@ -107,7 +107,7 @@ fn is_left(data: &[u8], before: Content<'_>, after: &[usize], refused: bool) -> 
 }
 
 // Tests whether the case of a line holds. A malformed line is a case that does not.
-pub fn holds(alloc: Global, line: &[u8], seed: u32) -> Result<bool, AllocError> {
+pub(crate) fn holds(alloc: Global, line: &[u8], seed: u32) -> Result<bool, AllocError> {
     match Case::read(alloc, line, seed) {
         Ok(case) => case.holds(alloc),
         Err(Unread::Malformed) => Ok(false),

@@ -4,7 +4,7 @@ use std::alloc::{AllocError, Global};
 
 // Says why a line gives no case.
 #[derive(Clone, Copy, Debug)]
-pub enum Unread {
+pub(crate) enum Unread {
     Malformed,
     OutOfMemory(AllocError),
 }
@@ -15,6 +15,7 @@ impl From<AllocError> for Unread {
     }
 }
 
+// Reads a number of digits alone. (std's `parse` takes a sign `+` before them too, and a list has none.)
 fn with_digit(value: usize, byte: &u8) -> Result<usize, Unread> {
     let digit = char::from(*byte).to_digit(10).ok_or(Unread::Malformed)?;
     value
@@ -28,7 +29,7 @@ fn number(word: &[u8]) -> Result<usize, Unread> {
 }
 
 // Reads the numbers of a section.
-pub fn numbers(alloc: Global, section: &[u8]) -> Result<Vec<usize>, Unread> {
+pub(crate) fn numbers(alloc: Global, section: &[u8]) -> Result<Vec<usize>, Unread> {
     section
         .split(|byte| *byte == b' ')
         .filter(|word| !word.is_empty())
@@ -37,7 +38,7 @@ pub fn numbers(alloc: Global, section: &[u8]) -> Result<Vec<usize>, Unread> {
 }
 
 // Reads a section of at most as many numbers as the array has. Zeros stand for those that it leaves out.
-pub fn array<const N: usize>(alloc: Global, section: &[u8]) -> Result<[usize; N], Unread> {
+pub(crate) fn array<const N: usize>(alloc: Global, section: &[u8]) -> Result<[usize; N], Unread> {
     let read = numbers(alloc, section)?;
     if read.len() > N {
         return Err(Unread::Malformed);
@@ -47,8 +48,9 @@ pub fn array<const N: usize>(alloc: Global, section: &[u8]) -> Result<[usize; N]
     Ok(array)
 }
 
-// Gives a number as a narrower one, and 0 where it does not fit.
-pub fn narrow<T: TryFrom<usize> + Default>(value: usize) -> T
+// Gives a number as a narrower one, and 0 where it does not fit: `call` makes a division's settings before it looks
+// which call it is, and other calls have any number in their places.
+pub(crate) fn narrow<T: TryFrom<usize> + Default>(value: usize) -> T
 where
     <T as TryFrom<usize>>::Error: Drop,
 {

@@ -7,15 +7,16 @@ use std::fmt;
 
 // The score of a list: its cases, how many of them were wrong, and the line of the first of those.
 #[derive(Clone, Copy, Default)]
-pub struct Score {
+pub(crate) struct Score {
     cases: usize,
     wrong: usize,
     first: Option<usize>,
 }
 
 impl Score {
-    // The score of a list that is too long to be read: wrong at line 0, which no list has.
-    pub const UNREAD: Score = Score {
+    // The score of a list that is too long to be read: wrong at line 0, which no list has. This line is printed, so it
+    // is a line and not None.
+    pub(crate) const UNREAD: Score = Score {
         cases: 0,
         wrong: 1,
         first: Some(0),
@@ -52,7 +53,7 @@ impl fmt::Display for Score {
 }
 
 // Replays a list. The noise of a case has five seeds, and the first is eight above that of the case before it.
-pub fn replay(alloc: Global, text: &[u8]) -> Result<Score, AllocError> {
+pub(crate) fn replay(alloc: Global, text: &[u8]) -> Result<Score, AllocError> {
     let mut score = Score::default();
     let mut seed = 0u32;
     for (index, line) in text.split(|byte| *byte == b'\n').enumerate() {

@@ -4,10 +4,11 @@ use imgproc::grid::TileCounts;
 use imgproc::morphology::tally::{self, Tally};
 use imgproc::reading::ReadingCounts;
 
-pub type Answer = [usize; 5];
+// An array, as a list has it. A `Result` would not hold it: call 20 may have a number and a value together.
+pub(crate) type Answer = [usize; 5];
 
 // What an accepted call answers, as up to four values.
-pub trait Values {
+pub(crate) trait Values {
     fn values(self) -> [usize; 4];
 }
 
@@ -60,7 +61,7 @@ impl Values for ReadingCounts {
 }
 
 // Gives an answer as a list has it.
-pub fn told<T: Values, E: Refusal>(answer: Result<T, E>) -> Answer {
+pub(crate) fn told<T: Values, E: Refusal>(answer: Result<T, E>) -> Answer {
     match answer {
         Ok(found) => {
             let [a, b, c, d] = found.values();

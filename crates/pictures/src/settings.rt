@@ -7,7 +7,7 @@ use imgproc::reading::ReadingConfig;
 use imgproc::threshold::SauvolaConfig;
 
 // The numbers of a call: its own first, then as many as any call has.
-pub type Numbers = [usize; 24];
+pub(crate) type Numbers = [usize; 24];
 
 fn geometry([width, height, stride]: [usize; 3]) -> Geometry {
     Geometry {
@@ -17,15 +17,15 @@ fn geometry([width, height, stride]: [usize; 3]) -> Geometry {
     }
 }
 
-pub fn source(f: Numbers) -> Geometry {
+pub(crate) fn source(f: Numbers) -> Geometry {
     geometry([f[1], f[2], f[3]])
 }
 
-pub fn destination(f: Numbers) -> Geometry {
+pub(crate) fn destination(f: Numbers) -> Geometry {
     geometry([f[4], f[5], f[6]])
 }
 
-pub fn division(f: Numbers) -> BackgroundDivideConfig {
+pub(crate) fn division(f: Numbers) -> BackgroundDivideConfig {
     BackgroundDivideConfig {
         structuring_element: f[7],
         target_luma: narrow(f[8]),
@@ -44,7 +44,7 @@ fn window([radius, k, range, dark, light]: [usize; 5]) -> SauvolaConfig {
     }
 }
 
-pub fn sauvola(f: Numbers) -> SauvolaConfig {
+pub(crate) fn sauvola(f: Numbers) -> SauvolaConfig {
     window([f[7], f[8], f[9], f[10], f[11]])
 }
 
@@ -81,11 +81,11 @@ fn tiles(numbers: [usize; 8]) -> TileThresholdConfig {
     }
 }
 
-pub fn grid(f: Numbers) -> TileThresholdConfig {
+pub(crate) fn grid(f: Numbers) -> TileThresholdConfig {
     tiles([f[4], f[5], f[6], f[7], f[8], f[9], f[10], f[11]])
 }
 
-pub fn reading(f: Numbers) -> ReadingConfig {
+pub(crate) fn reading(f: Numbers) -> ReadingConfig {
     ReadingConfig {
         division: division(f),
         opening_kernel: f[10],
@@ -94,7 +94,7 @@ pub fn reading(f: Numbers) -> ReadingConfig {
     }
 }
 
-pub fn built(f: Numbers) -> TileThresholdGrid {
+pub(crate) fn built(f: Numbers) -> TileThresholdGrid {
     TileThresholdGrid {
         width: f[1],
         height: f[2],
