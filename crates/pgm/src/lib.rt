@@ -125,7 +125,7 @@ fn put_text(out: &mut [u8], at: usize, text: &[u8]) -> usize
 }
 
 // Writes a number and the byte that follows it at a place, and answers the place after them. A number has at most 20
-// digits. std's `write!` promises a text only where it answers Ok, and nothing promises that it does.
+// digits. (std's `write!` promises its text only where it answers Ok, and nothing promises that it does.)
 #[tactic(auto, using(crate::proofs::Writing::writing))]
 fn put_field(out: &mut [u8], at: usize, number: u64, end: u8) -> usize
     requires { at + 21 ≤ length out.old }
