@@ -1,3 +1,2 @@
--- Building a grid: what its checks give, and its ways out. Assumes nothing.
-pub mod Ways
+-- Building a grid: its ways out. Assumes nothing.
 pub mod Building

@@ -1,5 +1,6 @@
 -- Document 01, part 5: the tile grid. Definitions only.
-use Rattle.std.specs.Prelude.{ℕ, zero, suc, ◌+◌, ◌-◌, ◌*◌, ◌/◌, ◌%◌, min, max, Bool, false, cond, List, ltb, ℤ, pos, negsuc, ◌+ℤ◌, Float}
+use Rattle.std.specs.Prelude.{ℕ, zero, suc, ◌+◌, ◌-◌, ◌*◌, ◌/◌, ◌%◌, min, max, ltb, ℤ, pos, negsuc, ◌+ℤ◌, Float}
+use Rattle.std.specs.Prelude.{Bool, false, not, cond, List}
 use Rattle.std.specs.Float.{fin, binary64}
 use Rattle.std.specs.Float.Ieee.{of_int, add, sub, mul, div, lt, le}
 use Rattle.image.specs.Layout.{area_limit}
@@ -8,7 +9,7 @@ use Rattle.imgproc.specs.declared.grid.config.TileThresholdConfig.{TileThreshold
 use Rattle.imgproc.specs.declared.grid.config.TileThresholdMethod.{TileThresholdMethod}
 use Rattle.imgproc.specs.declared.grid.config.TileThresholdMethod.TheVariants.{Midrange, Sauvola}
 use Rattle.imgproc.specs.Fold.{Box, bit, fold_box}
-use Rattle.imgproc.specs.Reach.{low, high, ceiling}
+use Rattle.imgproc.specs.Reach.{low, high, ceiling, walk}
 use Rattle.imgproc.specs.Sums.{sum, sum_squares, count}
 use Rattle.imgproc.specs.Root.{root_of}
 
@@ -139,3 +140,13 @@ thresholds g w h p = tabulate (λ t. threshold_of g w h p (t % tiles_x_of g w) (
 unfoldable pub skips : TileThresholdConfig → ℕ → ℕ → List ℕ → List ℕ
 unfolding skip_of
 skips g w h p = tabulate (λ t. bit (skip_of g w h p (t % tiles_x_of g w) (t / tiles_x_of g w))) (tiles_x_of g w * tiles_y_of g h)
+
+-- how many tiles of tile row j are open, that is not skipped
+unfoldable pub open_of : TileThresholdConfig → ℕ → ℕ → List ℕ → ℕ → ℕ
+unfolding skip_of walk
+open_of g w h p j = walk (λ i. not (skip_of g w h p i j)) (tiles_x_of g w)
+
+-- these numbers, one for each tile row
+unfoldable pub open_tiles : TileThresholdConfig → ℕ → ℕ → List ℕ → List ℕ
+unfolding open_of
+open_tiles g w h p = tabulate (open_of g w h p) (tiles_y_of g h)

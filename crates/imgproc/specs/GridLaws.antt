@@ -1,10 +1,13 @@
 -- Laws of the grid: its tile counts, and which pixels a tile and a neighbourhood hold. Assumes nothing.
 use Rattle.std.specs.Prelude.{◌≡◌, ◌↔◌, ℕ, suc, ◌+◌, ◌-◌, ◌*◌, ◌/◌, ◌%◌, ◌≤◌, ◌<◌, false, List}
-use Rattle.std.proofs.Common.{sym, le-div_iff_mul-le, div-lt_iff_lt-mul, suc-mul, div-mul-le_self, mul-div_cancel, div-add-mod', mod-lt, mul-le-mul_left, arith, le-ltb}
+use Rattle.std.proofs.Common.{sym, ◌∙◌, ext_get_or, arith, le-ltb}
+use Rattle.std.proofs.Common.{le-div_iff_mul-le, div-lt_iff_lt-mul, suc-mul, div-mul-le_self, mul-div_cancel}
+use Rattle.std.proofs.Common.{div-add-mod', mod-lt, mul-le-mul_left}
 use Rattle.std.proofs.Math.Nat.{div-eq_of_lt-le}
 use Rattle.image.specs.Layout.{side_limit}
 use Rattle.image.specs.LayoutLaws.{sides_small}
-use Rattle.image.specs.Plane.{pixel}
+use Rattle.image.specs.Plane.{tabulate, pixel}
+use Rattle.image.specs.PlaneLaws.{length-tabulate, get_d_tabulate}
 use Rattle.imgproc.specs.declared.grid.config.TileThresholdConfig.{TileThresholdConfig}
 use Rattle.imgproc.specs.Reach.{low, high, ceiling}
 use Rattle.imgproc.specs.Grid.{tiles_x_of, tiles_y_of, tiles_limit, tile_from, tile_to, around, least, most, skip_of}
@@ -27,6 +30,12 @@ quotient_small n k K r = omega (arith, div-add-mod' n k, mul-le-mul_left (n / k)
 -- a tile starts within the line
 pub tile_starts : (n t i : ℕ) → 0 < t → i < ceiling n t → i * t < n
 tile_starts n t i T I = omega (arith, (le-div_iff_mul-le {k = t} {x = suc i} {y = n + t - 1} T).0 I, suc-mul i t)
+
+-- the tile of a sample is one of its line's
+pub sample_tile : (n t i : ℕ) → 0 < t → i < n → i / t < ceiling n t
+sample_tile n t i T I =
+    (le-div_iff_mul-le {k = t} {x = suc (i / t)} {y = n + t - 1} T).1
+    (omega (arith, suc-mul (i / t) t, div-mul-le_self i t))
 
 -- there are no more tiles than samples, and some where there is one
 pub ceiling_small : (n t : ℕ) → 0 < t → ceiling n t ≤ n
@@ -103,3 +112,13 @@ around_some g w h a b W H A B = record {
   across = axis_some g.neighborhood_radius w g.tile_width a W A;
   down = axis_some g.neighborhood_radius h g.tile_height b H B;
 }
+
+-- ---- lists, one number for each tile
+
+-- functions that agree on the places of a list make the same list
+pub tabulate_same : (f g : ℕ → ℕ) (n : ℕ) → ((i : ℕ) → i < n → f i ≡ g i) → tabulate f n ≡ tabulate g n
+tabulate_same f g n e =
+    ext_get_or 0 _ _ (length-tabulate f n ∙ sym (length-tabulate g n))
+    (λ i h.
+    let t : i < n = omega (arith, length-tabulate f n) in
+    get_d_tabulate f n i t ∙ e i t ∙ sym (get_d_tabulate g n i t))

@@ -13,6 +13,7 @@ pub mod Root
 pub mod Sums
 pub mod Grid
 pub mod GridCalls
+pub mod Blanking
 pub mod WholeRoot
 pub mod Sauvola
 pub mod Reading
@@ -31,17 +32,21 @@ pub mod RootNear
 pub mod RootBest
 pub mod SumLaws
 pub mod GridLaws
+pub mod GridMeans
+pub mod OpenLaws
+pub mod BlankingLaws
 pub mod SauvolaLaws
 pub mod ReadingLaws
 pub mod ReadingMeans
 pub mod ReadingLeaves
+pub mod ReadingRows
 pub mod Cases
 pub mod PicturesUnderOver
 pub mod PicturesSauvola
 pub mod PicturesGrid
 pub mod PicturesReading
 pub mod Pictures
--- What only the inside needs: what functions that no caller sees ask and leave.
+-- What only the inside needs: what functions that no caller sees ask and leave. (Laws use Tiles' `Sized` and `Rooms`.)
 pub mod Tallies
 pub mod Compared
 pub mod Sweeps

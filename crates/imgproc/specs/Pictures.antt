@@ -8,8 +8,9 @@ use Rattle.imgproc.specs.declared.illumination.BackgroundDivideConfig.{Backgroun
 use Rattle.imgproc.specs.Cases.{Case, ◌gives◌, wrong}
 use Rattle.imgproc.specs.Division.{divided}
 use Rattle.imgproc.specs.Sauvola.{threshold_at_pixel, binarized}
-use Rattle.imgproc.specs.Grid.{thresholds, skips}
-use Rattle.imgproc.specs.GridCalls.{bad_grid, all_skipped}
+use Rattle.imgproc.specs.Grid.{thresholds, skips, open_tiles}
+use Rattle.imgproc.specs.GridCalls.{bad_grid, open_tiles_in}
+use Rattle.imgproc.specs.Blanking.{all_skipped}
 use Rattle.imgproc.specs.PicturesSauvola.{sauvola_pictures}
 use Rattle.imgproc.specs.PicturesGrid.{grid_pictures}
 use Rattle.imgproc.specs.PicturesReading.{reading_pictures}
@@ -54,5 +55,6 @@ division_pictures =
 pub pictures_hold :
     wrong 1 (morphology_pictures ++ (division_pictures ++ (sauvola_pictures ++ (grid_pictures ++ reading_pictures)))) ≡ []
 unfolding reading_pictures reading_of marked morphology_pictures division_pictures sauvola_pictures grid_pictures
-    thresholds skips of_bits lt bad_grid all_skipped swept_rect walk R divided threshold_at_pixel binarized packed painted
+    thresholds skips open_tiles open_tiles_in all_skipped of_bits lt bad_grid swept_rect walk R divided
+    threshold_at_pixel binarized packed painted
 pictures_hold = refl

@@ -1,6 +1,6 @@
 -- Document 01's pictures of part 5, and a few of our own for neighbours, offsets and refusals: a part of the table in
 -- Pictures. Definitions only.
-use Rattle.std.specs.Prelude.{true, false, List, [], ◌∷◌, ℕ, ℤ, pos, negsuc}
+use Rattle.std.specs.Prelude.{List, [], ◌∷◌, ℕ, ℤ, pos, negsuc}
 use Rattle.std.specs.Float.{binary64}
 use Rattle.std.specs.Float.Ieee.{of_bits}
 use Rattle.imgproc.specs.declared.grid.config.TileThresholdConfig.{TileThresholdConfig}
@@ -8,8 +8,9 @@ use Rattle.imgproc.specs.declared.grid.queries.TileThresholdGrid.{TileThresholdG
 use Rattle.imgproc.specs.declared.grid.config.TileThresholdMethod.{TileThresholdMethod}
 use Rattle.imgproc.specs.declared.grid.config.TileThresholdMethod.TheVariants.{Midrange, Sauvola}
 use Rattle.imgproc.specs.Cases.{Case, ◌gives◌}
-use Rattle.imgproc.specs.Grid.{thresholds, skips}
-use Rattle.imgproc.specs.GridCalls.{grid_settings, query_conditions, tile_of, all_skipped}
+use Rattle.imgproc.specs.Grid.{thresholds, skips, open_tiles}
+use Rattle.imgproc.specs.GridCalls.{grid_settings, pixel_conditions, row_conditions, tile_of, open_tiles_in}
+use Rattle.imgproc.specs.Blanking.{SkipLent, tile_conditions, skips_with, open_tiles_with, all_skipped}
 use Rattle.imgproc.specs.Fold.{bit}
 use Rattle.imgproc.specs.Refusals.{Conditions, first, answer_by}
 use Rattle.image.specs.Answers.{answer_number, bare}
@@ -68,6 +69,16 @@ settings_number width height method =
 abbrev pub asked : ℕ → ℕ → TileThresholdGrid
 asked x y = record { width = 40; height = 20; tile_width = 16; tile_height = 8; tiles_x = x; tiles_y = y }
 
+-- the skip bytes of its 3 by 3 tiles and one byte more, false numbers for its tile rows and one more, and tile (i, j)
+abbrev pub lent_by : ℕ → ℕ → SkipLent
+lent_by i j = record {
+  grid = asked 3 3;
+  skips = 0 ∷ 9 ∷ 0 ∷ 1 ∷ 1 ∷ 1 ∷ 0 ∷ 0 ∷ 255 ∷ 7 ∷ [];
+  open_tiles = 8 ∷ 9 ∷ 7 ∷ 5 ∷ [];
+  column = i;
+  row = j;
+}
+
 -- the table
 unfoldable pub grid_pictures : List Case
 unfolding first_number settings_number
@@ -115,14 +126,38 @@ grid_pictures =
     7 ∷ 7 ∷ 7 ∷ 7 ∷ 7 ∷ []) ∷
     (settings_number 1 1 (floats 0xbff0_0000_0000_0000 1) ∷ [] gives one 0) ∷
     -- queries: counts that are not the ceilings before a short buffer before a place outside; 3 by 3 tiles
-    (first_number (query_conditions (asked 3 2) 0 false) ∷
-    first_number (query_conditions (asked 3 3) 8 false) ∷
-    first_number (query_conditions (asked 3 3) 9 false) ∷
-    first_number (query_conditions (asked 3 3) 9 true) ∷
+    (first_number (pixel_conditions (asked 3 2) 0 40 0) ∷
+    first_number (pixel_conditions (asked 3 3) 8 40 0) ∷
+    first_number (pixel_conditions (asked 3 3) 9 0 20) ∷
+    first_number (pixel_conditions (asked 3 3) 9 39 19) ∷
     [] gives
     7 ∷ 10 ∷ 9 ∷ 0 ∷ []) ∷
+    -- of a pixel row: a number for each of the 3 tile rows is enough
+    (first_number (row_conditions (asked 2 3) 0 20) ∷
+    first_number (row_conditions (asked 3 3) 2 20) ∷
+    first_number (row_conditions (asked 3 3) 3 20) ∷
+    first_number (row_conditions (asked 3 3) 3 19) ∷
+    [] gives
+    7 ∷ 10 ∷ 9 ∷ 0 ∷ []) ∷
+    -- of a tile: either buffer short, and a tile column or a tile row that the grid has not
+    (first_number (tile_conditions (asked 3 4) 0 0 3 3) ∷
+    first_number (tile_conditions (asked 3 3) 8 3 3 3) ∷
+    first_number (tile_conditions (asked 3 3) 9 2 3 3) ∷
+    first_number (tile_conditions (asked 3 3) 9 3 3 2) ∷
+    first_number (tile_conditions (asked 3 3) 9 3 2 3) ∷
+    first_number (tile_conditions (asked 3 3) 9 3 2 2) ∷
+    [] gives
+    7 ∷ 10 ∷ 10 ∷ 9 ∷ 9 ∷ 0 ∷ []) ∷
     -- the tile of the last pixel, and of the pixel before a tile's start
     (tile_of (asked 3 3) 39 19 ∷ tile_of (asked 3 3) 31 8 ∷ [] gives 8 ∷ 4 ∷ []) ∷
     -- each byte but 0 is skipped
     (bit (all_skipped (0 ∷ 1 ∷ 255 ∷ 7 ∷ []) 1 3) ∷ bit (all_skipped (0 ∷ 1 ∷ 255 ∷ 7 ∷ []) 0 3) ∷ [] gives 1 ∷ 0 ∷ []) ∷
+    -- the open tiles of the tile rows that are skipped as above, and of bytes
+    (open_tiles (tiles 1 1) 3 3 (0 ∷ 0 ∷ 0 ∷ 0 ∷ 0 ∷ 0 ∷ 0 ∷ 0 ∷ 255 ∷ []) gives 0 ∷ 2 ∷ 2 ∷ []) ∷
+    (open_tiles_in (0 ∷ 1 ∷ 255 ∷ 7 ∷ 2 ∷ 0 ∷ 0 ∷ 0 ∷ 9 ∷ 9 ∷ 9 ∷ 9 ∷ []) 4 3 gives 1 ∷ 3 ∷ 0 ∷ []) ∷
+    -- tile (1, 2) of 3 by 3 is set to 1 and to 0: its row is counted afresh, and a false number of another row stays
+    (skips_with (lent_by 1 2) 1 gives 0 ∷ 9 ∷ 0 ∷ 1 ∷ 1 ∷ 1 ∷ 0 ∷ 1 ∷ 255 ∷ 7 ∷ []) ∷
+    (open_tiles_with (lent_by 1 2) 1 gives 8 ∷ 9 ∷ 1 ∷ 5 ∷ []) ∷
+    (skips_with (lent_by 2 2) 0 gives 0 ∷ 9 ∷ 0 ∷ 1 ∷ 1 ∷ 1 ∷ 0 ∷ 0 ∷ 0 ∷ 7 ∷ []) ∷
+    (open_tiles_with (lent_by 2 2) 0 gives 8 ∷ 9 ∷ 3 ∷ 5 ∷ []) ∷
     []

@@ -7,7 +7,8 @@ use Rattle.imgproc.specs.declared.grid.config.TileThresholdMethod.TheVariants.{M
 use Rattle.imgproc.specs.declared.threshold.SauvolaConfig.{SauvolaConfig}
 use Rattle.imgproc.specs.declared.reading.config.ReadingConfig.{ReadingConfig}
 use Rattle.imgproc.specs.Sauvola.{sauvola_defaults}
-use Rattle.imgproc.specs.Reading.{ReadingNumbers, reading_of, marked}
+use Rattle.imgproc.specs.Grid.{open_tiles}
+use Rattle.imgproc.specs.Reading.{ReadingNumbers, opened_of, reading_of, marked}
 use Rattle.imgproc.specs.Cases.{Case, ◌gives◌, geometry}
 
 -- tiles of t by t with a neighbourhood radius of 1 and a contrast floor
@@ -57,6 +58,9 @@ reading_pictures =
     1 ∷ 3 ∷ 0 ∷ 52 ∷ []) ∷
     -- all three judgements
     (counts (reading_of shaded_settings 6 4 (picture shaded (geometry 6 4 8))) gives 6 ∷ 10 ∷ 8 ∷ 440 ∷ []) ∷
+    -- the open tiles of its two tile rows: of 3 by 2 tiles, the last of each row is skipped
+    (open_tiles shaded_settings.grid 6 4 (opened_of shaded_settings 6 4 (picture shaded (geometry 6 4 8))) gives
+    2 ∷ 2 ∷ []) ∷
     -- and their bytes, in a destination of stride 7 with a row and a byte after the last
     (painted_on (replicate 36 1) (geometry 6 4 7) (marked shaded_settings 6 4 (picture shaded (geometry 6 4 8))) gives
     9 ∷ 7 ∷ 9 ∷ 9 ∷ 9 ∷ 9 ∷ 1 ∷

@@ -2,7 +2,7 @@
 use Rattle.std.specs.Prelude.{ℕ, ◌+◌, ◌*◌, ◌/◌, ◌%◌, ◌≡◌, Bool, true, false, cond, ◌||◌, ltb, List, length}
 use Rattle.image.specs.declared.Geometry.{Geometry}
 use Rattle.image.specs.Answers.{Answer, accepted, refused}
-use Rattle.image.specs.Plane.{plane, picture, painted_on}
+use Rattle.image.specs.Plane.{plane, picture, painted_on, overwritten}
 use Rattle.imgproc.specs.declared.reading.config.ReadingConfig.{ReadingConfig}
 use Rattle.imgproc.specs.declared.reading.ReadingCounts.{ReadingCounts}
 use Rattle.imgproc.specs.declared.reading.judging.Judgement.{Judgement}
@@ -10,12 +10,12 @@ use Rattle.imgproc.specs.declared.reading.judging.Judgement.TheVariants.{Dark, L
 use Rattle.imgproc.specs.declared.ImgProcError.{ImgProcError}
 use Rattle.std.specs.Prelude.{Result, Ok, Err}
 use Rattle.imgproc.specs.declared.grid.config.TileThresholdConfig.{TileThresholdConfig}
-use Rattle.imgproc.specs.declared.ImgProcError.TheVariants.{InvalidKernel, WorkspaceTooSmall}
+use Rattle.imgproc.specs.declared.ImgProcError.TheVariants.{InvalidKernel, WorkspaceTooSmall, GridBufferTooSmall}
 use Rattle.imgproc.specs.declared.threshold.SauvolaConfig.{SauvolaConfig}
 use Rattle.imgproc.specs.Reach.{R, walk}
 use Rattle.imgproc.specs.Morphology.{swept_rect, opened}
 use Rattle.imgproc.specs.Division.{divided}
-use Rattle.imgproc.specs.Grid.{skip_of}
+use Rattle.imgproc.specs.Grid.{tiles_y_of, skip_of, open_tiles}
 use Rattle.imgproc.specs.Refusals.{
   error_number,
   Conditions,
@@ -130,17 +130,18 @@ reading_bytes grid w h = marks_at w h + 2 * tile_count grid w h
 abbrev pub reading_u64s : TileThresholdConfig → ℕ → ℕ → ℕ
 reading_u64s grid w h = table_entries w h + 5 * tile_count grid w h
 
--- either workspace too short for a picture and the tiles of a grid over it
-abbrev pub room_over : Geometry → TileThresholdConfig → ℕ → ℕ → Conditions
-room_over g grid bytes u64s =
+-- either workspace too short for a picture and the tiles of a grid over it; a count buffer under tiles_y
+abbrev pub room_over : Geometry → TileThresholdConfig → ℕ → ℕ → ℕ → Conditions
+room_over g grid bytes u64s open_room =
     refused_if
     (ltb bytes (reading_bytes grid g.width g.height)
     || ltb u64s (reading_u64s grid g.width g.height))
-    WorkspaceTooSmall
+    WorkspaceTooSmall then
+    refused_if (ltb open_room (tiles_y_of grid g.height)) GridBufferTooSmall
 
 -- and with a reading's settings
-abbrev pub reading_room : Geometry → ReadingConfig → ℕ → ℕ → Conditions
-reading_room g s bytes u64s = room_over g s.grid bytes u64s
+abbrev pub reading_room : Geometry → ReadingConfig → ℕ → ℕ → ℕ → Conditions
+reading_room g s bytes u64s open_room = room_over g s.grid bytes u64s open_room
 
 -- what a reading is lent
 pub record ReadingLent : Type 0 where
@@ -151,12 +152,14 @@ pub record ReadingLent : Type 0 where
   pub settings : ReadingConfig
   pub bytes : List ℕ
   pub u64s : List ℕ
+  pub open_tiles : List ℕ
 
 -- what is left of it
 pub record ReadingLeft : Type 0 where
   pub dst : List ℕ
   pub bytes : List ℕ
   pub u64s : List ℕ
+  pub open_tiles : List ℕ
 
 -- what a reading says: the four numbers, or the number of the refusal
 abbrev pub numbers_of : ReadingCounts → ReadingNumbers
@@ -167,12 +170,12 @@ read_answer (Ok c) = accepted (numbers_of c)
 read_answer (Err e) = refused (error_number e)
 
 -- what a reading with settings that are checked by a list of their own is refused for: the layouts; 5; the settings;
--- the workspaces
+-- the workspaces; the count buffer
 abbrev pub reading_conditions_by : Conditions → ReadingLent → Conditions
 reading_conditions_by settings lent =
     pair_conditions (length lent.src) lent.source (length lent.dst) lent.target then
     settings then
-    reading_room lent.source lent.settings (length lent.bytes) (length lent.u64s)
+    reading_room lent.source lent.settings (length lent.bytes) (length lent.u64s) (length lent.open_tiles)
 
 abbrev pub reading_conditions : ReadingLent → Conditions
 reading_conditions lent = reading_conditions_by (reading_settings lent.settings) lent
@@ -186,13 +189,22 @@ marks_from lent =
     let g = lent.source in
     painted_on lent.dst lent.target (marked lent.settings g.width g.height (picture lent.src g))
 
--- a reading by a list of conditions: its answer, the destination's bytes, and both workspaces
+-- the count buffer as a build over the opened picture leaves it
+abbrev pub open_tiles_from : ReadingLent → List ℕ
+open_tiles_from lent =
+    let g = lent.source in
+    overwritten 0
+    (open_tiles lent.settings.grid g.width g.height (opened_of lent.settings g.width g.height (picture lent.src g)))
+    lent.open_tiles
+
+-- a reading by a list of conditions: its answer, the destination's bytes, both workspaces, and the count buffer
 pub record ReadsBy (cs : Conditions) (lent : ReadingLent) (answer : Answer ReadingNumbers) (left : ReadingLeft)
     : Type 0 where
   pub answers : answer ≡ answer_by (first cs) (numbers_from lent)
   pub leaves : left.dst ≡ left_by (first cs) (marks_from lent) lent.dst
   pub bytes_left : Lent (first cs) lent.bytes left.bytes
   pub u64s_left : Lent (first cs) lent.u64s left.u64s
+  pub open_tiles_left : left.open_tiles ≡ left_by (first cs) (open_tiles_from lent) lent.open_tiles
 
 -- the contract of a reading
 abbrev pub Reads : ReadingLent → Answer ReadingNumbers → ReadingLeft → Type 0

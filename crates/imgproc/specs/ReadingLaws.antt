@@ -1,16 +1,38 @@
--- What follows from the definition of a reading: its counts add up, none is dark where no pixel is judged so, and its
--- comparisons stay below 24wh. Assumes nothing.
-use Rattle.std.specs.Prelude.{◌≡◌, refl, Bool, true, false, List, ℕ, zero, suc, ◌+◌, ◌*◌, ◌/◌, ◌%◌, ◌≤◌, ◌<◌}
-use Rattle.std.proofs.Common.{sym, ap, ap₂, ◌∙◌, eq-or-lt_of_le, mod-lt, div-lt_iff_lt-mul, mul_comm, mul-zero, mul-one, mul-add, add-zero, add-suc, arith, ⊎_elim}
+-- What follows from the definition of a reading: its counts add up, none is dark where no pixel is judged so, its
+-- comparisons stay below 24wh, and what its checks say where they accept. Assumes nothing.
+use Rattle.std.specs.Prelude.{Ok}
+use Rattle.std.specs.Prelude.{◌≡◌, refl, Bool, true, false, ◌||◌, ltb, List, ℕ, zero, suc, ◌+◌, ◌*◌, ◌/◌, ◌%◌, ◌≤◌, ◌<◌}
+use Rattle.std.proofs.Common.{sym, ap, ap₂, ◌∙◌, eq-or-lt_of_le, mod-lt, div-lt_iff_lt-mul, mul_comm, arith, ⊎_elim}
+use Rattle.std.proofs.Common.{ltb-false}
+use Rattle.std.proofs.Common.{mul-zero, mul-one, mul-add, add-zero, add-suc}
 use Rattle.std.proofs.Math.Arith.{digits_mod, digits_div}
+use Rattle.image.specs.declared.Geometry.{Geometry}
+use Rattle.image.specs.LayoutLaws.{neither}
 use Rattle.image.specs.PlaneLaws.{in_plane}
 use Rattle.imgproc.specs.declared.reading.config.ReadingConfig.{ReadingConfig}
 use Rattle.imgproc.specs.declared.reading.judging.Judgement.{Judgement}
 use Rattle.imgproc.specs.declared.reading.judging.Judgement.TheVariants.{Dark, Light, Skipped}
+use Rattle.imgproc.specs.declared.ImgProcError.TheVariants.{InvalidKernel, WorkspaceTooSmall, GridBufferTooSmall}
+use Rattle.imgproc.specs.Refusals.{first, ◌then◌, refused_if, bad_kernel, division_settings, sauvola_settings}
+use Rattle.imgproc.specs.RefusalLaws.{both_accepted, not_refused}
+use Rattle.imgproc.specs.Grid.{tiles_y_of}
+use Rattle.imgproc.specs.GridCalls.{grid_settings}
 use Rattle.imgproc.specs.Fold.{bit}
 use Rattle.imgproc.specs.Reach.{walk}
 use Rattle.imgproc.specs.Walks.{same_walk, walk_le, reading_below}
-use Rattle.imgproc.specs.Reading.{is_dark, is_light, is_skipped, judged, pixels, comparisons_of, reading_of}
+use Rattle.imgproc.specs.Reading.{
+  is_dark,
+  is_light,
+  is_skipped,
+  judged,
+  pixels,
+  comparisons_of,
+  reading_of,
+  reading_settings,
+  reading_bytes,
+  reading_u64s,
+  reading_room,
+}
 
 -- three tests of which each index passes one
 three : (a b c : ℕ → Bool) → ((i : ℕ) → bit (a i) + bit (b i) + bit (c i) ≡ 1) → (n : ℕ)
@@ -33,7 +55,7 @@ adds_up s w h p =
     three (λ i. is_dark (j i)) (λ i. is_light (j i)) (λ i. is_skipped (j i)) (λ i. one_of (j i)) (w * h)
 
 -- a walk that counts none passes no index, and one that passes none counts none
-walk_none : (test : ℕ → Bool) (n : ℕ) → walk test n ≡ 0 → (i : ℕ) → i < n → test i ≡ false
+pub walk_none : (test : ℕ → Bool) (n : ℕ) → walk test n ≡ 0 → (i : ℕ) → i < n → test i ≡ false
 unfolding walk
 walk_none test zero e i l = absurd (omega arith)
 walk_none test (suc n) e i l =
@@ -44,7 +66,7 @@ walk_none test (suc n) e i l =
     last false q t = ap test q ∙ t
     last true q t = let z : bit (test n) ≡ 1 = ap bit t in absurd (omega arith)
 
-no_walk : (test : ℕ → Bool) (n : ℕ) → ((i : ℕ) → i < n → test i ≡ false) → walk test n ≡ 0
+pub no_walk : (test : ℕ → Bool) (n : ℕ) → ((i : ℕ) → i < n → test i ≡ false) → walk test n ≡ 0
 unfolding walk
 no_walk test zero h = refl
 no_walk test (suc n) h =
@@ -114,3 +136,47 @@ pixels_row w y test W =
 pub pixels_most : (w y : ℕ) (test : ℕ → ℕ → Bool) → pixels w y test ≤ w * y
 unfolding pixels
 pixels_most w y test = walk_le (λ i. test (i % w) (i / w)) (w * y)
+
+-- ---- what accepted settings and workspaces say
+
+-- each part of the settings is accepted
+pub record SettingsSaid (s : ReadingConfig) : Type 0 where
+  pub division : first (division_settings s.division) ≡ Ok tt
+  pub kernel : bad_kernel s.opening_kernel ≡ false
+  pub grid : first (grid_settings s.grid) ≡ Ok tt
+  pub sauvola : first (sauvola_settings s.sauvola) ≡ Ok tt
+
+pub settings_say : (s : ReadingConfig) → first (reading_settings s) ≡ Ok tt → SettingsSaid s
+unfolding reading_settings
+settings_say s p =
+    let kernel = refused_if (bad_kernel s.opening_kernel) InvalidKernel in
+    let last = grid_settings s.grid then sauvola_settings s.sauvola in
+    let a = both_accepted (division_settings s.division) (kernel then last) p in
+    let b = both_accepted kernel last a.1 in
+    let c = both_accepted (grid_settings s.grid) (sauvola_settings s.sauvola) b.1 in
+    record {
+      division = a.0;
+      kernel = not_refused (bad_kernel s.opening_kernel) InvalidKernel b.0;
+      grid = c.0;
+      sauvola = c.1;
+    }
+
+-- both workspaces hold what the reading asks for, and the count buffer its tile rows
+pub record RoomSaid (g : Geometry) (s : ReadingConfig) (bytes u64s open_room : ℕ) : Type 0 where
+  pub bytes_fit : reading_bytes s.grid g.width g.height ≤ bytes
+  pub u64s_fit : reading_u64s s.grid g.width g.height ≤ u64s
+  pub open_tiles_fit : tiles_y_of s.grid g.height ≤ open_room
+
+pub room_says : (g : Geometry) (s : ReadingConfig) (bytes u64s open_room : ℕ)
+    → first (reading_room g s bytes u64s open_room) ≡ Ok tt → RoomSaid g s bytes u64s open_room
+room_says g s bytes u64s open_room p =
+    let a = ltb bytes (reading_bytes s.grid g.width g.height) in
+    let b = ltb u64s (reading_u64s s.grid g.width g.height) in
+    let c = ltb open_room (tiles_y_of s.grid g.height) in
+    let q = both_accepted (refused_if (a || b) WorkspaceTooSmall) (refused_if c GridBufferTooSmall) p in
+    let n = neither a b (not_refused (a || b) WorkspaceTooSmall q.0) in
+    record {
+      bytes_fit = ltb-false bytes (reading_bytes s.grid g.width g.height) n.0;
+      u64s_fit = ltb-false u64s (reading_u64s s.grid g.width g.height) n.1;
+      open_tiles_fit = ltb-false open_room (tiles_y_of s.grid g.height) (not_refused c GridBufferTooSmall q.1);
+    }

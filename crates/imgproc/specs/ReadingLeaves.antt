@@ -96,7 +96,7 @@ module _ (a b : AcceptedReading) (settings : settings_of a ≡ settings_of b)
     (as_wide : wide a ≡ wide b) (as_high : high a ≡ high b)
     (same : (x y : ℕ) → x < wide a → y < high a
     → pixel a.lent.src a.lent.source.stride x y ≡ pixel b.lent.src b.lent.source.stride x y) where
-  one_picture : source_of a ≡ source_of b
+  pub one_picture : source_of a ≡ source_of b
   one_picture =
       same_pixels (wide a) (high a) a.lent.src b.lent.src a.lent.source.stride b.lent.source.stride
       (pair a).from.wide same

@@ -1,6 +1,6 @@
 -- What an accepted reading means, drawn from its contract alone: which pixels are judged dark, light and skipped, that
 -- each count is the number of just those pixels, and whose comparisons are reported. (ReadingLeaves: what it leaves;
--- RefusedExactly: when it is refused.) Assumes nothing.
+-- ReadingRows: its count buffer; RefusedExactly: when it is refused.) Assumes nothing.
 use Rattle.std.specs.Prelude.{Ok}
 use Rattle.std.specs.Prelude.{ℕ, ◌+◌, ◌*◌, ◌/◌, ◌≤◌, ◌<◌, ◌≡◌, Bool, true, false, cond, ◌&&◌, ◌↔◌, List, leb, length}
 use Rattle.std.proofs.Common.{arith, sym, ap₂, ◌∙◌, leb-true, leb-false, le-leb}
@@ -13,25 +13,16 @@ use Rattle.imgproc.specs.declared.reading.config.ReadingConfig.{ReadingConfig}
 use Rattle.imgproc.specs.declared.reading.judging.Judgement.{Judgement}
 use Rattle.imgproc.specs.declared.reading.judging.Judgement.TheVariants.{Dark, Light, Skipped}
 use Rattle.imgproc.specs.declared.morphology.Operation.TheVariants.{Open, Close}
-use Rattle.imgproc.specs.declared.ImgProcError.TheVariants.{InvalidKernel}
 use Rattle.imgproc.specs.Reach.{R}
-use Rattle.imgproc.specs.Refusals.{
-  Conditions,
-  first,
-  ◌then◌,
-  refused_if,
-  pair_conditions,
-  bad_kernel,
-  division_settings,
-  sauvola_settings,
-}
-use Rattle.imgproc.specs.RefusalLaws.{both_accepted, taken, not_refused, kernel_says, division_says, pair_says}
+use Rattle.imgproc.specs.Refusals.{Conditions, first, ◌then◌, pair_conditions}
+use Rattle.imgproc.specs.RefusalLaws.{both_accepted, taken, kernel_says, division_says, pair_says}
 use Rattle.imgproc.specs.Calls.{Loan, Left, Serves, conditions_of, Paired}
 use Rattle.imgproc.specs.MorphologyCalls.{opening, closing}
 use Rattle.imgproc.specs.MorphologyLaws.{operation_walks_lem}
-use Rattle.imgproc.specs.Grid.{skip_of}
+use Rattle.imgproc.specs.Grid.{tiles_y_of, skip_of}
 use Rattle.imgproc.specs.GridLaws.{floor_0}
-use Rattle.imgproc.specs.GridCalls.{grid_settings}
+use Rattle.imgproc.specs.GridMeans.{sides_accepted, sized_of}
+use Rattle.imgproc.specs.Tiles.{Sized}
 use Rattle.imgproc.specs.Sauvola.{threshold_at_pixel, at_or_below}
 use Rattle.imgproc.specs.Reading.{
   is_dark,
@@ -53,6 +44,7 @@ use Rattle.imgproc.specs.Reading.{
   Reads,
 }
 use Rattle.imgproc.specs.ReadingLaws.{adds_up, comparisons_below, pixels_same, pixels_empty}
+use Rattle.imgproc.specs.ReadingLaws.{SettingsSaid, settings_say, room_says}
 
 -- ---- the judgement of a pixel
 
@@ -166,11 +158,13 @@ module _ (a : AcceptedReading) where
   abbrev pairs : Conditions
   pairs = pair_conditions (length a.lent.src) a.lent.source (length a.lent.dst) a.lent.target
 
-  parts : (first pairs ≡ Ok tt) × (first (reading_settings settings_of) ≡ Ok tt)
+  abbrev room : Conditions
+  room = reading_room a.lent.source settings_of (length a.lent.bytes) (length a.lent.u64s) (length a.lent.open_tiles)
+
+  parts : (first pairs ≡ Ok tt) × ((first (reading_settings settings_of) ≡ Ok tt) × (first room ≡ Ok tt))
   parts =
-      let room = reading_room a.lent.source settings_of (length a.lent.bytes) (length a.lent.u64s) in
       let p = both_accepted pairs (reading_settings settings_of then room) said.0 in
-      (p.0, (both_accepted (reading_settings settings_of) room p.1).0)
+      (p.0, both_accepted (reading_settings settings_of) room p.1)
 
   pub pair : Paired (length a.lent.src) a.lent.source (length a.lent.dst) a.lent.target
   pair = pair_says (length a.lent.src) a.lent.source (length a.lent.dst) a.lent.target parts.0
@@ -229,14 +223,21 @@ module _ (a : AcceptedReading) where
       (λ x y. floor_0 settings_of.grid wide high (opened_of settings_of wide high source_of)
       (x / settings_of.grid.tile_width) (y / settings_of.grid.tile_height) z)
 
+  settings_said : SettingsSaid settings_of
+  settings_said = settings_say settings_of parts.1.0
+
   kernels : (3 ≤ settings_of.division.structuring_element) × (3 ≤ settings_of.opening_kernel)
-  unfolding reading_settings
-  kernels =
-      let last = grid_settings settings_of.grid then sauvola_settings settings_of.sauvola in
-      let m = refused_if (bad_kernel settings_of.opening_kernel) InvalidKernel in
-      let p = both_accepted (division_settings settings_of.division) (m then last) parts.1 in
-      let q = not_refused (bad_kernel settings_of.opening_kernel) InvalidKernel (both_accepted m last p.1).0 in
-      ((division_says settings_of.division p.0).0, kernel_says settings_of.opening_kernel q)
+  kernels = (
+    (division_says settings_of.division settings_said.division).0,
+    kernel_says settings_of.opening_kernel settings_said.kernel,
+  )
+
+  -- its picture and its tile sides make a grid, and the count buffer holds its tile rows
+  pub tiled : Sized settings_of.grid wide high
+  tiled = let t = sides_accepted settings_of.grid settings_said.grid in sized_of pair.from t.0 t.1
+
+  pub tile_rows_fit : tiles_y_of settings_of.grid high ≤ length a.lent.open_tiles
+  tile_rows_fit = (room_says a.lent.source settings_of _ _ _ parts.1.1).open_tiles_fit
 
   -- the comparisons are 2R(k) + 2R(m), below 24wh
   pub compared : (a.numbers.comparisons ≡ comparisons_of settings_of wide high)

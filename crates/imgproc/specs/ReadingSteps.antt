@@ -2,7 +2,7 @@
 use Rattle.std.specs.Prelude.{ℕ, ◌+◌, ◌*◌, ◌≤◌, ◌<◌, ◌^◌, ◌≡◌, List, length, get_or}
 use Rattle.image.specs.declared.Geometry.{Geometry}
 use Rattle.image.specs.Layout.{Kept}
-use Rattle.image.specs.Plane.{plane, painted_on, part, picture}
+use Rattle.image.specs.Plane.{plane, painted_on, part, picture, overwritten}
 use Rattle.imgproc.specs.declared.reading.config.ReadingConfig.{ReadingConfig}
 use Rattle.imgproc.specs.declared.reading.ReadingCounts.{ReadingCounts}
 use Rattle.imgproc.specs.declared.reading.judging.Judged.{Judged}
@@ -11,7 +11,7 @@ use Rattle.imgproc.specs.declared.morphology.tally.Tally.{Tally}
 use Rattle.imgproc.specs.Tallies.{Raised, HasRoom}
 use Rattle.imgproc.specs.Fold.{bit}
 use Rattle.imgproc.specs.Reach.{walk, sweep_walks}
-use Rattle.imgproc.specs.Grid.{tiles_x_of, tiles_y_of, skips}
+use Rattle.imgproc.specs.Grid.{tiles_x_of, tiles_y_of, skips, open_tiles}
 use Rattle.imgproc.specs.Refusals.{table_entries}
 use Rattle.imgproc.specs.Tables.{InRange, Tables}
 use Rattle.imgproc.specs.Calls.{Paired}
@@ -30,6 +30,7 @@ use Rattle.imgproc.specs.Reading.{
   numbers_of,
   numbers_from,
   marks_from,
+  open_tiles_from,
 }
 
 -- what a `Judge` goes by: the opened picture is packed, its tables and its tiles' skips stand in their slices, and the
@@ -118,6 +119,11 @@ pub record Marks (g : Geometry) (s : ReadingConfig) (at : ℕ) (bytes u64s bytes
   pub bytes_long : length bytes' ≡ length bytes
   pub u64s_long : length u64s' ≡ length u64s
 
+-- and of the count buffer
+abbrev pub CountsLeft : Geometry → ReadingConfig → List ℕ → List ℕ → List ℕ → Type 0
+CountsLeft g s bytes before after =
+    after ≡ overwritten 0 (open_tiles s.grid g.width g.height (part 0 (g.width * g.height) bytes)) before
+
 -- what `judge_picture` asks: the opened picture and its skips stand in the byte workspace, and the u64 workspace has
 -- room for the tables
 pub record JudgeRoom (g : Geometry) (s : ReadingConfig) (at : ℕ) (bytes u64s : List ℕ) : Type 0 where
@@ -145,6 +151,7 @@ pub record ReadReady (lent : ReadingLent) : Type 0 where
       reading_bytes lent.settings.grid lent.source.width lent.source.height ≤ length lent.bytes
   pub u64s_fit :
       reading_u64s lent.settings.grid lent.source.width lent.source.height ≤ length lent.u64s
+  pub open_tiles_fit : tiles_y_of lent.settings.grid lent.source.height ≤ length lent.open_tiles
 
 -- and what it leaves
 pub record ReadDone (lent : ReadingLent) (counts : ReadingCounts) (left : ReadingLeft) : Type 0 where
@@ -152,3 +159,4 @@ pub record ReadDone (lent : ReadingLent) (counts : ReadingCounts) (left : Readin
   pub leaves : left.dst ≡ marks_from lent
   pub bytes_long : length left.bytes ≡ length lent.bytes
   pub u64s_long : length left.u64s ≡ length lent.u64s
+  pub open_tiles_left : left.open_tiles ≡ open_tiles_from lent

@@ -2,9 +2,9 @@
 -- fits, and then every lent buffer is as it was; accepted exactly when none fits. (FirstFits and Exactly are image's.)
 -- Assumes nothing.
 use Rattle.std.specs.Prelude.{Ok, Err}
-use Rattle.std.specs.Prelude.{ℕ, ◌≡◌, refl, Bool, true, false, cond, List, [], ◌∷◌, length, get_or}
+use Rattle.std.specs.Prelude.{ℕ, ◌≡◌, refl, Bool, true, false, cond, List, [], ◌∷◌, eqb, length, get_or}
 use Rattle.std.proofs.Common.{sym, ◌∙◌}
-use Rattle.image.specs.Answers.{Answer, refused, Condition, numbered, answer_to}
+use Rattle.image.specs.Answers.{Answer, Bare, bare, refused, Condition, numbered, answer_to}
 use Rattle.image.specs.RefusedExactly.{Exactly, differ, exactly}
 use Rattle.imgproc.specs.declared.ImgProcError.{ImgProcError}
 use Rattle.imgproc.specs.declared.grid.queries.TileThresholdGrid.{TileThresholdGrid}
@@ -21,11 +21,11 @@ use Rattle.imgproc.specs.GridCalls.{
   tile_of,
   tile_row_of,
   skipped,
-  all_skipped,
   threshold_asked,
   skip_asked,
   row_skip_asked,
 }
+use Rattle.imgproc.specs.Blanking.{SkipLent, SkipLeft, skip_conditions, SetsSkip}
 use Rattle.imgproc.specs.Reading.{ReadingNumbers, ReadingLent, ReadingLeft, numbers_from, ReadsBy}
 
 -- a list of conditions by its numbers
@@ -80,10 +80,13 @@ module _ {cs : Conditions} {lent : BuildLent} {answer : Answer TileCounts} {left
   build_exactly = by_list (tiles_from lent) cs builds.answers
 
   pub build_keeps : {n : ℕ} → answer ≡ refused n
-      → (left.workspace ≡ lent.workspace) × ((left.thresholds ≡ lent.thresholds) × (left.skips ≡ lent.skips))
+      → (left.workspace ≡ lent.workspace)
+      × ((left.thresholds ≡ lent.thresholds) × ((left.skips ≡ lent.skips) × (left.open_tiles ≡ lent.open_tiles)))
   build_keeps p =
-      let r = (refuses (tiles_from lent) (first cs) (sym builds.answers ∙ p)).is in
-      (rw r at builds.workspace_left, (builds.thresholds_left ∙ rw r, builds.skips_left ∙ rw r))
+      let r = (refuses (tiles_from lent) (first cs) (sym builds.answers ∙ p)).is in (
+        rw r at builds.workspace_left,
+        (builds.thresholds_left ∙ rw r, (builds.skips_left ∙ rw r, builds.open_tiles_left ∙ rw r)),
+      )
 
 -- ---- the queries, which are lent nothing that they write to
 module _ (q : TileThresholdGrid) (d : List ℕ) where
@@ -97,9 +100,20 @@ module _ (q : TileThresholdGrid) (d : List ℕ) where
 
   pub row_skip_exactly : (y : ℕ)
       → Exactly (numbers (row_conditions q (length d) y))
-      (all_skipped d (tile_row_of q y) q.tiles_x)
+      (eqb (get_or d (tile_row_of q y) 0) 0)
       (row_skip_asked q d y)
-  row_skip_exactly y = by_list (all_skipped d (tile_row_of q y) q.tiles_x) (row_conditions q (length d) y) refl
+  row_skip_exactly y = by_list (eqb (get_or d (tile_row_of q y) 0) 0) (row_conditions q (length d) y) refl
+
+-- ---- the calls that set or clear a skip by hand
+module _ {v : ℕ} {lent : SkipLent} {answer : Answer Bare} {left : SkipLeft} (sets : SetsSkip v lent answer left) where
+  pub sets_exactly : Exactly (numbers (skip_conditions lent)) bare answer
+  sets_exactly = by_list bare (skip_conditions lent) sets.answers
+
+  pub sets_keeps : {n : ℕ} → answer ≡ refused n
+      → (left.skips ≡ lent.skips) × (left.open_tiles ≡ lent.open_tiles)
+  sets_keeps p =
+      let r = (refuses bare (first (skip_conditions lent)) (sym sets.answers ∙ p)).is in
+      (sets.skips_left ∙ rw r, sets.open_tiles_left ∙ rw r)
 
 -- ---- the reading, by its own list or by another
 module _ {cs : Conditions} {lent : ReadingLent} {answer : Answer ReadingNumbers} {left : ReadingLeft}
@@ -108,7 +122,10 @@ module _ {cs : Conditions} {lent : ReadingLent} {answer : Answer ReadingNumbers}
   reading_exactly = by_list (numbers_from lent) cs reads.answers
 
   pub reading_keeps : {n : ℕ} → answer ≡ refused n
-      → (left.dst ≡ lent.dst) × ((left.bytes ≡ lent.bytes) × (left.u64s ≡ lent.u64s))
+      → (left.dst ≡ lent.dst)
+      × ((left.bytes ≡ lent.bytes) × ((left.u64s ≡ lent.u64s) × (left.open_tiles ≡ lent.open_tiles)))
   reading_keeps p =
-      let r = (refuses (numbers_from lent) (first cs) (sym reads.answers ∙ p)).is in
-      (reads.leaves ∙ rw r, (rw r at reads.bytes_left, rw r at reads.u64s_left))
+      let r = (refuses (numbers_from lent) (first cs) (sym reads.answers ∙ p)).is in (
+        reads.leaves ∙ rw r,
+        (rw r at reads.bytes_left, (rw r at reads.u64s_left, reads.open_tiles_left ∙ rw r)),
+      )

@@ -11,7 +11,7 @@ use Rattle.imgproc.specs.Extremes.{Some}
 use Rattle.imgproc.specs.Reach.{low, high}
 use Rattle.imgproc.specs.Sums.{sum, sum_squares, count}
 use Rattle.imgproc.specs.Grid.{tiles_x_of, tiles_y_of, tile_from, tile_to, least, most, base_of, clipped}
-use Rattle.imgproc.specs.GridCalls.{BuildLent, BuildLeft, tiles_lent, thresholds_over, skips_over}
+use Rattle.imgproc.specs.GridCalls.{BuildLent, BuildLeft, tiles_lent, thresholds_over, skips_over, open_tiles_over}
 
 -- a picture and tile sides that a grid can be built over
 pub record Sized (g : TileThresholdConfig) (w h : ℕ) : Type 0 where
@@ -186,9 +186,11 @@ pub record Rooms (lent : BuildLent) : Type 0 where
   pub workspace : 5 * tiles_lent lent ≤ length lent.workspace
   pub thresholds : tiles_lent lent ≤ length lent.thresholds
   pub skips : tiles_lent lent ≤ length lent.skips
+  pub open_tiles : tiles_y_of lent.settings lent.source.height ≤ length lent.open_tiles
 
--- `fill` leaves both buffers as an accepted build leaves them
+-- `fill` leaves the three buffers as an accepted build leaves them
 pub record Fills (lent : BuildLent) (left : BuildLeft) : Type 0 where
   pub thresholds_left : left.thresholds ≡ thresholds_over lent
   pub skips_left : left.skips ≡ skips_over lent
+  pub open_tiles_left : left.open_tiles ≡ open_tiles_over lent
   pub long : length left.workspace ≡ length lent.workspace

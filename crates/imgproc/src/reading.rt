@@ -3,13 +3,15 @@
 pub mod config;
 pub mod judging;
 
-ghost use Rattle.std.specs.Prelude.{◌≡◌};
+ghost use Rattle.std.specs.Prelude.{◌≡◌, ◌≤◌, length};
+ghost use Rattle.imgproc.specs.Grid.{tiles_y_of};
 ghost use Rattle.imgproc.specs.Reading.{Reads, read_answer, reading_settings, room_over};
 ghost use Rattle.imgproc.specs.Refusals.{first};
-ghost use Rattle.imgproc.specs.ReadingSteps.{ReadReady, ReadDone, OpenReady, Opened, MarkReady, Marks};
+ghost use Rattle.imgproc.specs.ReadingSteps.{ReadReady, ReadDone, OpenReady, Opened, MarkReady, Marks, CountsLeft};
 
 use crate::ImgProcError;
 use crate::grid::bytes::{SkipRule, write_bytes};
+use crate::grid::open::count_open;
 use crate::grid::table::TileTable;
 use crate::grid::tiles::Tiling;
 use crate::illumination::flatten;
@@ -61,20 +63,23 @@ fn flatten_and_open(
     morph_rect_twice::<true, false>(raised, bytes, planes, kernel, kernel)
 }
 
-// Marks the opened picture's tiles: writes their skips from `marks` on.
+// Marks the opened picture's tiles: writes their skips from `marks` on, and counts the open ones of each tile row.
 fn mark_tiles(
     packed: Geometry,
     config: ReadingConfig,
     bytes: &mut [u8],
     marks: usize,
     u64s: &mut [u64],
+    open_tiles: &mut [u16],
 )
-    requires { MarkReady packed config marks bytes.old u64s.old }
-    ensures { Marks packed config marks
+    requires room { MarkReady packed config marks bytes.old u64s.old }
+    requires rows { tiles_y_of config.grid packed.height ≤ length open_tiles.old }
+    ensures marks { Marks packed config marks
         bytes.old
         u64s.old
         bytes.new
         u64s.new }
+    ensures counted { CountsLeft packed config bytes.old open_tiles.old open_tiles.new }
 {
     let plane = packed.width * packed.height;
     let grid = config.grid;
@@ -88,7 +93,10 @@ fn mark_tiles(
     };
     tiling.gather(u64s, 0);
     let table = TileTable::new(tiling, u64s, 0);
+    let tiles = table.tiles;
+    let end = marks + tiling.total();
     write_bytes(SkipRule(grid), table, bytes, marks);
+    count_open(&bytes[marks..end], tiles, open_tiles);
 }
 
 // Does the work of an accepted reading: one tally, started at 0, goes through the closing and the opening.
@@ -99,6 +107,7 @@ fn read_picture(
     config: ReadingConfig,
     bytes: &mut [u8],
     u64s: &mut [u64],
+    open_tiles: &mut [u16],
 ) -> ReadingCounts
     requires { ReadReady
         (record {
@@ -109,6 +118,7 @@ fn read_picture(
           settings = config;
           bytes = bytes.old;
           u64s = u64s.old;
+          open_tiles = open_tiles.old;
         }) }
     ensures { ReadDone
         (record {
@@ -119,9 +129,10 @@ fn read_picture(
           settings = config;
           bytes = bytes.old;
           u64s = u64s.old;
+          open_tiles = open_tiles.old;
         })
         result
-        (record { dst = dst.new; bytes = bytes.new; u64s = u64s.new }) }
+        (record { dst = dst.new; bytes = bytes.new; u64s = u64s.new; open_tiles = open_tiles.new }) }
 {
     let width = source.geometry.width;
     let height = source.geometry.height;
@@ -132,7 +143,7 @@ fn read_picture(
     };
     let marks = PLANES * (width * height);
     let tally = flatten_and_open(start(), source, config, bytes);
-    mark_tiles(packed, config, bytes, marks, u64s);
+    mark_tiles(packed, config, bytes, marks, u64s, open_tiles);
     let judged = judge_picture(packed, config, bytes, marks, u64s, dst, dst_geometry);
     ReadingCounts {
         dark: judged.dark,
@@ -155,10 +166,16 @@ pub(crate) fn check_settings(config: ReadingConfig) -> Result<(), ImgProcError>
     crate::threshold::check_settings(config.sauvola)
 }
 
-// Checks that both workspaces have room for a reading of the picture.
+// Checks that both workspaces have room for a reading of the picture, and the count buffer a number for each tile row.
 #[tactic(auto, unfolding(crate::specs::Refusals::first))]
-fn check_room(tiling: Tiling<'_>, bytes: usize, u64s: usize) -> Result<(), ImgProcError>
-    ensures { let t = tiling.entry in result ≡ first (room_over t.source.geometry t.config bytes u64s) }
+fn check_room(
+    tiling: Tiling<'_>,
+    bytes: usize,
+    u64s: usize,
+    open_room: usize,
+) -> Result<(), ImgProcError>
+    ensures { let t = tiling.entry in
+        result ≡ first (room_over t.source.geometry t.config bytes u64s open_room) }
 {
     let width = tiling.source.geometry.width;
     let height = tiling.source.geometry.height;
@@ -168,11 +185,15 @@ fn check_room(tiling: Tiling<'_>, bytes: usize, u64s: usize) -> Result<(), ImgPr
     {
         return Err(ImgProcError::WorkspaceTooSmall);
     }
+    if open_room < tiling.counts().tiles_y {
+        return Err(ImgProcError::GridBufferTooSmall);
+    }
     Ok(())
 }
 
-// Reads a picture: judges every pixel, marks the rows of the destination and counts. The two workspaces stay two
-// parameters, as a destination and its geometry do (`unpack_rows` of image says why).
+// Reads a picture: judges every pixel, marks the rows of the destination, counts the open tiles of each tile row and
+// the pixels of each kind. The two workspaces stay two parameters, as a destination and its geometry do (`unpack_rows`
+// of image says why).
 pub fn reading(
     src: &[u8],
     src_geometry: Geometry,
@@ -181,6 +202,7 @@ pub fn reading(
     config: ReadingConfig,
     bytes: &mut [u8],
     u64s: &mut [u64],
+    open_tiles: &mut [u16],
 ) -> Result<ReadingCounts, ImgProcError>
     ensures { Reads
         (record {
@@ -191,9 +213,10 @@ pub fn reading(
           settings = config;
           bytes = bytes.old;
           u64s = u64s.old;
+          open_tiles = open_tiles.old;
         })
         (read_answer result)
-        (record { dst = dst.new; bytes = bytes.new; u64s = u64s.new }) }
+        (record { dst = dst.new; bytes = bytes.new; u64s = u64s.new; open_tiles = open_tiles.new }) }
 {
     let source = check_pair(src, src_geometry, dst.len(), dst_geometry)?;
     check_settings(config)?;
@@ -201,6 +224,6 @@ pub fn reading(
         source,
         config: config.grid,
     };
-    check_room(tiling, bytes.len(), u64s.len())?;
-    Ok(read_picture(source, dst, dst_geometry, config, bytes, u64s))
+    check_room(tiling, bytes.len(), u64s.len(), open_tiles.len())?;
+    Ok(read_picture(source, dst, dst_geometry, config, bytes, u64s, open_tiles))
 }

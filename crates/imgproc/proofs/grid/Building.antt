@@ -12,12 +12,13 @@ use Rattle.imgproc.specs.GridCalls.{grid_settings, BuildLent, BuildLeft, build_c
 use Rattle.imgproc.specs.Tiles.{Fills}
 use Rattle.imgproc.specs.Refusals.{error_number, Conditions, first, ◌then◌, view_conditions}
 use Rattle.imgproc.specs.RefusalLaws.{then_accepted, then_refused, view_refused, view_accepted}
-use Rattle.imgproc.proofs.grid.Ways.{room_of}
+use Rattle.imgproc.specs.GridMeans.{room_of}
 
 module _ (lent : BuildLent) where
   -- all of it, left as it was
   abbrev untouched : BuildLeft
-  untouched = record { workspace = lent.workspace; thresholds = lent.thresholds; skips = lent.skips }
+  untouched =
+      record { workspace = lent.workspace; thresholds = lent.thresholds; skips = lent.skips; open_tiles = lent.open_tiles }
 
   -- settings and room
   abbrev rest : Conditions
@@ -25,7 +26,13 @@ module _ (lent : BuildLent) where
 
   -- a list that refuses
   refused_build : {e : ImgProcError} → first (build_conditions lent) ≡ Err e → Builds lent (refused (error_number e)) untouched
-  refused_build p = record { answers = rw p; thresholds_left = rw p; skips_left = rw p; workspace_left = rw p refl }
+  refused_build p = record {
+    answers = rw p;
+    thresholds_left = rw p;
+    skips_left = rw p;
+    open_tiles_left = rw p;
+    workspace_left = rw p refl;
+  }
 
   -- the layout refuses
   pub layout_refused : {e : LumaError} → layout_of (length lent.src) lent.source ≡ Err e
@@ -59,5 +66,6 @@ module _ (lent : BuildLent) where
             answers = rw p;
             thresholds_left = rw p f.thresholds_left;
             skips_left = rw p f.skips_left;
+            open_tiles_left = rw p f.open_tiles_left;
             workspace_left = rw p f.long;
           }

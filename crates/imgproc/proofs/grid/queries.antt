@@ -1,3 +1,3 @@
--- Queries about a grid: what their checks give, and runs of skipped tiles. Assumes nothing.
+-- Queries about a grid: what their checks give, and the ways out of a call that sets a skip. Assumes nothing.
 pub mod Grids
-pub mod Skipped
+pub mod Setting

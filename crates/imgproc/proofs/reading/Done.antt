@@ -6,7 +6,7 @@ use Prim.Native.Nat.{ℕ, ◌*◌}
 use native.Mathlib.Omega.{arith}
 use lib.ListN.{length}
 use Rattle.image.specs.declared.Geometry.{Geometry}
-use Rattle.image.specs.Plane.{picture, painted_on, part}
+use Rattle.image.specs.Plane.{picture, painted_on, part, overwritten}
 use Rattle.imgproc.specs.declared.reading.config.ReadingConfig.{ReadingConfig}
 use Rattle.imgproc.specs.declared.reading.ReadingCounts.{ReadingCounts}
 use Rattle.imgproc.specs.declared.reading.judging.Judged.{Judged}
@@ -14,6 +14,7 @@ use Rattle.imgproc.specs.declared.reading.judging.Judgement.{Judgement}
 use Rattle.imgproc.specs.declared.morphology.tally.Tally.{Tally}
 use Rattle.imgproc.specs.Tallies.{Stands, stands_as, raised_fresh}
 use Rattle.imgproc.specs.Walks.{sweep_walks_lem}
+use Rattle.imgproc.specs.Grid.{open_tiles}
 use Rattle.imgproc.specs.Reading.{
   ReadingNumbers,
   ReadingLent,
@@ -29,7 +30,7 @@ use Rattle.imgproc.specs.Reading.{
   marked,
   marks_at,
 }
-use Rattle.imgproc.specs.ReadingSteps.{marked_over, Opened, Marks, PictureJudged, ReadReady, ReadDone}
+use Rattle.imgproc.specs.ReadingSteps.{marked_over, Opened, Marks, PictureJudged, CountsLeft, ReadReady, ReadDone}
 
 -- the packed geometry of a picture
 abbrev pub packed_as : Geometry → Geometry
@@ -78,16 +79,20 @@ module _ {lent : ReadingLent} (ready : ReadReady lent) {tally : Tally} (fresh : 
           let opening = sweep_walks_lem s.opening_kernel ready.settings.kernel g.width g.height in
           stands_as (raised_fresh fresh o.counted) (omega arith)
 
-      pub read_done : {j : Judged} {dst u64s₃ : List ℕ}
+      pub read_done : {j : Judged} {dst u64s₃ open' : List ℕ}
+          → CountsLeft (packed_as g) s bytes₁ lent.open_tiles open'
           → PictureJudged s (packed_as g) (part 0 (g.width * g.height) bytes₂) lent.dst lent.target j dst
           → length u64s₃ ≡ length u64s₂
-          → ReadDone lent (counts_of j.dark j.light j.skipped raised) (record { dst = dst; bytes = bytes₂; u64s = u64s₃ })
+          → ReadDone lent (counts_of j.dark j.light j.skipped raised) (record { dst = dst; bytes = bytes₂; u64s = u64s₃; open_tiles = open' })
       unfolding source reading_of
-      read_done {j} p l = record {
+      read_done {j} n p l = record {
         counted =
             ap₂ (λ (a b : ℕ). numbers a b j.skipped raised.comparisons) (p.dark ∙ count_is is_dark) (p.light ∙ count_is is_light)
             ∙ ap₂ (numbers _ _) (p.skipped ∙ count_is is_skipped) comparisons_are.at;
         leaves = p.leaves ∙ ap (painted_on lent.dst lent.target) marked_is;
         bytes_long = m.bytes_long ∙ o.long;
         u64s_long = l ∙ m.u64s_long;
+        open_tiles_left =
+            n
+            ∙ ap (λ (p : List ℕ). overwritten 0 (open_tiles s.grid g.width g.height p) lent.open_tiles) o.leaves;
       }

@@ -23,7 +23,7 @@ use Rattle.imgproc.specs.Division.{Flattened}
 use Rattle.imgproc.specs.Grid.{tiles_x_of, tiles_y_of, skip_of, skips}
 use Rattle.imgproc.specs.Tiles.{Sized, GatherLent, Gathers, each_tile, skip_by}
 use Rattle.imgproc.specs.ReadingSteps.{OpenReady, Opened, MarkReady, Marks}
-use Rattle.imgproc.proofs.grid.Ways.{sized_of}
+use Rattle.imgproc.specs.GridMeans.{sized_of}
 use Rattle.imgproc.proofs.grid.bytes.Tables.{skips_are}
 
 -- ---- flattened and opened

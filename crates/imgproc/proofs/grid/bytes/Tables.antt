@@ -3,23 +3,17 @@ use mathlib.Core.Path.{◌≡◌, refl, sym, ap, ◌∙◌}
 use mathlib.Core.List.{List}
 use Prim.Native.Nat.{ℕ, ◌*◌, ◌/◌, ◌%◌, ◌<◌}
 use native.Mathlib.Omega.{arith}
-use lib.Seq.{ext_get_or}
 use Rattle.image.specs.Plane.{tabulate, pixel, picture}
-use Rattle.image.specs.PlaneLaws.{length-tabulate, get_d_tabulate}
 use Rattle.image.specs.Views.{pixel_picture}
 use Rattle.imgproc.specs.declared.grid.config.TileThresholdConfig.{TileThresholdConfig}
 use Rattle.imgproc.specs.declared.grid.tiles.TileNumbers.{TileNumbers}
 use Rattle.imgproc.specs.Fold.{bit}
 use Rattle.imgproc.specs.Grid.{tiles_x_of, tiles_y_of, around, skip_of, threshold_of, thresholds, skips}
+use Rattle.imgproc.specs.GridLaws.{tabulate_same}
 use Rattle.imgproc.specs.Tiles.{Sized, numbers_in, GatherLent, Gathers, joined_around, each_tile, threshold_by, skip_by}
 use Rattle.imgproc.proofs.grid.tiles.Counts.{column, row}
 use Rattle.imgproc.proofs.grid.tiles.Numbers.{same_in}
 use Rattle.imgproc.proofs.grid.tiles.Neighbours.{around_joined, some_around}
-
-tabulate_same : (f g : ℕ → ℕ) (n : ℕ) → ((i : ℕ) → i < n → f i ≡ g i) → tabulate f n ≡ tabulate g n
-tabulate_same f g n e =
-    ext_get_or 0 _ _ (length-tabulate f n ∙ sym (length-tabulate g n))
-    (λ i h. let t : i < n = omega (arith, length-tabulate f n) in get_d_tabulate f n i t ∙ e i t ∙ sym (get_d_tabulate g n i t))
 
 -- the numbers were gathered from a picture, and stand in ws
 module _ (lent : GatherLent) {ws : List ℕ} (z : Sized lent.settings lent.source.width lent.source.height) (gathers : Gathers lent ws) where

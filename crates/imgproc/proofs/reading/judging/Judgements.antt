@@ -1,11 +1,10 @@
 -- One pixel's judgement: where its tile's mark stands, what the mark says, and each way out of `judge`. Assumes nothing.
-use mathlib.Core.Path.{◌≡◌, refl, sym, ap, ap₂, ◌∙◌}
+use mathlib.Core.Path.{◌≡◌, refl, sym, ap, ◌∙◌}
 use mathlib.Core.Bool.{Bool, true, false}
 use mathlib.Core.List.{List}
-use Prim.Native.Nat.{ℕ, suc, ◌+◌, ◌-◌, ◌*◌, ◌/◌, ◌%◌, ◌≤◌, ◌<◌}
-use native.Mathlib.Nat.{le-div_iff_mul-le, suc-mul, div-mul-le_self, ne_of_lt, mul_comm}
+use Prim.Native.Nat.{ℕ, ◌+◌, ◌*◌, ◌/◌, ◌≤◌, ◌<◌}
+use native.Mathlib.Nat.{ne_of_lt, mul_comm}
 use native.Mathlib.Omega.{arith}
-use lib.Arith.{digits_mod, digits_div}
 use lib.ListN.{length, get_or, set}
 use lib.Seq.{get_or-set_same, get_or-set_other}
 use borrow.Author.Count.{below_more}
@@ -13,15 +12,17 @@ use borrow.Author.Tests.{le-leb, lt-leb}
 use Rattle.image.specs.Layout.{Kept, area_limit}
 use Rattle.image.specs.declared.Geometry.{Geometry}
 use Rattle.image.specs.Plane.{pixel, picture}
-use Rattle.image.specs.PlaneLaws.{length-tabulate, get_d_tabulate, in_plane, pixel_plane}
+use Rattle.image.specs.PlaneLaws.{in_plane, pixel_plane}
 use Rattle.image.specs.Views.{picture_again}
 use Rattle.imgproc.specs.declared.reading.config.ReadingConfig.{ReadingConfig}
 use Rattle.imgproc.specs.declared.reading.judging.Judged.{Judged}
 use Rattle.imgproc.specs.declared.reading.judging.Judgement.{Judgement}
 use Rattle.imgproc.specs.declared.reading.judging.Judgement.TheVariants.{Dark, Light, Skipped}
 use Rattle.imgproc.specs.Fold.{bit}
-use Rattle.imgproc.specs.Reach.{ceiling, walk}
-use Rattle.imgproc.specs.Grid.{tiles_x_of, tiles_y_of, skip_of, skips}
+use Rattle.imgproc.specs.Reach.{walk}
+use Rattle.imgproc.specs.Grid.{tiles_x_of, tiles_y_of, skip_of}
+use Rattle.imgproc.specs.GridLaws.{sample_tile}
+use Rattle.imgproc.specs.OpenLaws.{skips_long, skip_byte}
 use Rattle.imgproc.specs.Sauvola.{threshold_at_pixel, at_or_below}
 use Rattle.imgproc.specs.Walks.{walk_more, walk_le}
 use Rattle.imgproc.specs.Reading.{is_dark, is_light, is_skipped, byte_of, judged_over, pixels}
@@ -37,10 +38,6 @@ bit_none : (b : Bool) → bit b ≡ 0 → b ≡ false
 bit_none true e = absurd (omega arith)
 bit_none false e = refl
 
--- the tile of sample i, along an axis of n samples with tiles of t, is one of the grid's
-pub tile_in : (n t i : ℕ) → 0 < t → i < n → i / t < ceiling n t
-tile_in n t i T I = (le-div_iff_mul-le {k = t} {x = suc (i / t)} {y = n + t - 1} T).1 (omega (arith, suc-mul (i / t) t, div-mul-le_self i t))
-
 module _ {o : List ℕ} {g : Geometry} {sk ws : List ℕ} {at : ℕ} {s : ReadingConfig}
     (kept : Kept (length o) g) (ready : JudgeReady o g sk ws at s) {x y : ℕ} (X : x < g.width) (Y : y < g.height) where
   -- the tile of the pixel, and whether the skip of a tile holds
@@ -51,10 +48,10 @@ module _ {o : List ℕ} {g : Geometry} {sk ws : List ℕ} {at : ℕ} {s : Readin
   skip = skip_of s.grid g.width g.height o
 
   across : x / s.grid.tile_width < tiles_x_of s.grid g.width
-  across = tile_in g.width s.grid.tile_width x ready.tile_width X
+  across = sample_tile g.width s.grid.tile_width x ready.tile_width X
 
   down : y / s.grid.tile_height < tiles_y_of s.grid g.height
-  down = tile_in g.height s.grid.tile_height y ready.tile_height Y
+  down = sample_tile g.height s.grid.tile_height y ready.tile_height Y
 
   inside : tile < tiles_x_of s.grid g.width * tiles_y_of s.grid g.height
   inside =
@@ -62,20 +59,13 @@ module _ {o : List ℕ} {g : Geometry} {sk ws : List ℕ} {at : ℕ} {s : Readin
 
   -- the mark stands in the skips
   pub tile_within : tile < length sk
-  unfolding skips
-  tile_within =
-      let wide = tiles_x_of s.grid g.width in
-      rw (ap length ready.marks ∙ length-tabulate (λ t. bit (skip (t % wide) (t / wide))) (wide * tiles_y_of s.grid g.height)) inside
+  tile_within = rw (ap length ready.marks ∙ skips_long s.grid g.width g.height o) inside
 
   -- and says whether the skip of the pixel's tile holds
   mark : get_or sk tile 0 ≡ bit (skip (x / s.grid.tile_width) (y / s.grid.tile_height))
-  unfolding skips
   mark =
-      let wide = tiles_x_of s.grid g.width in
-      let row = y / s.grid.tile_height in
       ap (λ (l : List ℕ). get_or l tile 0) ready.marks
-      ∙ get_d_tabulate (λ t. bit (skip (t % wide) (t / wide))) (wide * tiles_y_of s.grid g.height) tile inside
-      ∙ ap₂ (λ (i j : ℕ). bit (skip i j)) (digits_mod row across) (digits_div row across)
+      ∙ skip_byte s.grid g.width g.height o (x / s.grid.tile_width) (y / s.grid.tile_height) across down
 
   pub is_skipped_lem : (get_or sk tile 0 ≡ 0 → ⊥) → Skipped ≡ judged_over s g.width g.height o x y
   unfolding judged_over

@@ -18,6 +18,7 @@ lent s =
       settings = a.config;
       bytes = a.bytes.now;
       u64s = a.u64s.now;
+      open_tiles = a.open_tiles.now;
     }
 
 pub returns-in_err-source : goal.returns-in_err-source

@@ -1,35 +1,32 @@
--- `pixel_place` meets its contract. Assumes nothing.
-use Rattle.std.proofs.Common.{arith, sym, ap, ◌∙◌, Bool, ◌&&◌, ltb}
-use Rattle.imgproc.specs.GridCalls.{query_conditions}
-use Rattle.imgproc.specs.Refusals.{first}
-use Rattle.imgproc.proofs.grid.queries.Grids.{Asked, asked, inside_pixel, few_tiles, tile_row, tile_column}
+-- The tile of the pixel is one of the grid's, whose tiles are few. Assumes nothing.
+use Rattle.std.proofs.Common.{arith, sym, ◌∙◌, ◌<◌}
+use Rattle.imgproc.specs.Grid.{tiles_limit}
+use Rattle.imgproc.specs.GridCalls.{tile_of}
+use Rattle.imgproc.specs.GridMeans.{is_inside, both_inside}
+use Rattle.imgproc.proofs.grid.queries.Grids.{sound_of, few_tiles, pixel_inside}
 use Rattle.imgproc.proofs.grid.queries.TileThresholdGrid.pixel_place.Goals as goal
-use Rattle.imgproc.proofs.grid.queries.TileThresholdGrid.pixel_place.Goals.{In_ok-check_query}
+use Rattle.imgproc.proofs.grid.queries.TileThresholdGrid.pixel_place.Goals.{In_ok-check_asked}
 
--- the query was accepted
-accepted : (c : In_ok-check_query)
+within : (c : In_ok-check_asked)
     → let a = c.args in
-    Asked a.self a.len (ltb a.x a.self.width && ltb a.y a.self.height)
-accepted c =
+    tile_of a.self a.x a.y < tiles_limit
+within c =
     let a = c.args in
-    asked _ _ _ (sym (c.in_ok-check_query.ensures ∙ ap (λ (b : Bool). first (query_conditions a.self a.len b)) c.holds_pixel.ensures))
+    let z = sound_of a.self (sym c.in_ok-check_grid.ensures) in
+    let i = both_inside a.x _ a.y _ (sym c.holds_pixel.ensures ∙ is_inside _ _ (sym c.in_ok-check_asked.ensures)) in
+    omega (arith, few_tiles z, pixel_inside z a.x a.y i.0 i.1)
+
+pub overflow_mul-self : goal.overflow_mul-self
+overflow_mul-self c = omega (arith, few_tiles (sound_of _ (sym c.in_ok-check_grid.ensures)))
 
 pub nonzero_div-result : goal.nonzero_div-result
-nonzero_div-result c = (accepted (goal.at.nonzero_div-result c).In_ok-check_query).grid.tile_height
+nonzero_div-result c = (sound_of _ (sym c.in_ok-check_grid.ensures)).tile_height
 
 pub overflow_mul-result : goal.overflow_mul-result
-overflow_mul-result c =
-    let k = accepted (goal.at.overflow_mul-result c).In_ok-check_query in
-    let s = c.args in
-    let i = inside_pixel {q = s.self} {len = s.len} {x = s.x} {y = s.y} k in
-    omega (arith, few_tiles k.grid, tile_row k.grid s.y i.1, tile_column k.grid s.x i.0)
+overflow_mul-result c = omega (arith, within (goal.at.overflow_mul-result c).In_ok-check_asked)
 
 pub nonzero_div-result-2 : goal.nonzero_div-result-2
-nonzero_div-result-2 c = (accepted (goal.at.nonzero_div-result-2 c).In_ok-check_query).grid.tile_width
+nonzero_div-result-2 c = (sound_of _ (sym c.in_ok-check_grid.ensures)).tile_width
 
 pub overflow_add-result : goal.overflow_add-result
-overflow_add-result c =
-    let k = accepted (goal.at.overflow_add-result c).In_ok-check_query in
-    let s = c.args in
-    let i = inside_pixel {q = s.self} {len = s.len} {x = s.x} {y = s.y} k in
-    omega (arith, few_tiles k.grid, tile_row k.grid s.y i.1, tile_column k.grid s.x i.0)
+overflow_add-result c = omega (arith, within (goal.at.overflow_add-result c).In_ok-check_asked)

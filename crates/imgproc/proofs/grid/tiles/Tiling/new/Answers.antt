@@ -1,6 +1,6 @@
 -- `new` meets its contract: settings that were accepted have tile sides above 0. Assumes nothing.
 use mathlib.Core.Path.{sym}
-use Rattle.imgproc.proofs.grid.Ways.{sides_accepted, sized_of}
+use Rattle.imgproc.specs.GridMeans.{sides_accepted, sized_of}
 use Rattle.imgproc.proofs.grid.tiles.Tiling.new.Goals as goal
 
 pub invariant_of-result : goal.invariant_of-result

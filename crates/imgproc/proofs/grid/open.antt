@@ -1,0 +1,2 @@
+-- Open tiles: the loops that count them. Assumes nothing.
+pub mod Rows
