@@ -14,7 +14,7 @@ use Rattle.pgm.specs.Form.{Form, Parsed, Answers}
 use Rattle.pgm.specs.Line.{Writes}
 use Rattle.pgm.specs.Parse.{parsed_of}
 use Rattle.pgm.specs.ParseLaws.{parsed_answers}
-use Rattle.answer.specs.Answer.{settings, tight, Buffers, lent_to, answer_of, AnswersInput}
+use Rattle.answer.specs.Answer.{settings, tight, Buffers, own_open_tiles, lent_to, answer_of, AnswersInput}
 use Rattle.answer.specs.Program.{empty, picture_line, picture_marks, most_pixels, most_bytes, most_u64s, AnswersAndMarks}
 use Rattle.answer.specs.ProgramLaws.{line_picture, line_other, marks_picture, marks_by_lem}
 use Rattle.answer.specs.RoomLaws.{room_enough, empty_refused}
@@ -46,7 +46,7 @@ module _ (input : List ℕ) {lent left : Buffers} {n : Option ℕ}
     -- a picture with a zero side is refused, and any other is read
     either : (w h : ℕ) (f : Form input w h) (e : Bool) → empty w h ≡ e → Answer
     either w h f true x =
-        let rest = reading_settings settings then reading_room (tight w h) settings (length lent.bytes) (length lent.u64s) in
+        let rest = reading_settings settings then reading_room (tight w h) settings (length lent.bytes) (length lent.u64s) (length own_open_tiles) in
         checked w h f (Err (Image EmptyDimensions)) (empty_refused w h _ _ rest x) (rw x) (rw x)
     either w h f false x =
         let s = neither (eqb w 0) (eqb h 0) x in

@@ -1,12 +1,21 @@
 -- What `answer` promises: the line of the reading of the picture that an input is, or refusal 11. Definitions only.
-use Rattle.std.specs.Prelude.{ℕ, ◌≡◌, List, [], ◌∷◌, pos, Option, None}
+use Rattle.std.specs.Prelude.{ℕ, ◌≡◌, List, [], ◌∷◌, replicate, pos, Option, None}
 use Rattle.image.specs.declared.Geometry.{Geometry}
 use Rattle.image.specs.Answers.{Answer, accepted, refused}
 use Rattle.imgproc.specs.declared.grid.config.TileThresholdMethod.TheVariants.{Midrange}
 use Rattle.imgproc.specs.declared.reading.config.ReadingConfig.{ReadingConfig}
-use Rattle.imgproc.specs.Refusals.{first, answer_by}
-use Rattle.imgproc.specs.Reading.{ReadingLent, ReadingLeft, ReadingNumbers, reading_conditions, numbers_from, Reads}
-use Rattle.pgm.specs.Form.{Form, parsed_number}
+use Rattle.imgproc.specs.Grid.{tiles_y_of}
+use Rattle.imgproc.specs.Refusals.{first, answer_by, left_by as kept_by}
+use Rattle.imgproc.specs.Reading.{
+  ReadingLent,
+  ReadingLeft,
+  ReadingNumbers,
+  reading_conditions,
+  numbers_from,
+  open_tiles_from,
+  Reads,
+}
+use Rattle.pgm.specs.Form.{Form, side_limit, parsed_number}
 use Rattle.pgm.specs.Line.{line, refused_line, Writes}
 
 -- the settings of document 01: element 31, target 200, floor 8; m = 3; Midrange tiles 16 by 16, radius 1, offset 0,
@@ -37,6 +46,14 @@ pub record Buffers : Type 0 where
   pub u64s : List ℕ
   pub out : List ℕ
 
+-- the tile rows of the highest picture, 4
+abbrev pub most_tile_rows : ℕ
+most_tile_rows = tiles_y_of settings.grid side_limit
+
+-- the count buffer that `answer` makes for a reading: a number for each of them
+abbrev pub own_open_tiles : List ℕ
+own_open_tiles = replicate most_tile_rows 0
+
 -- what the reading of a picture of w by h is lent
 abbrev pub lent_to : ℕ → ℕ → List ℕ → Buffers → ReadingConfig → ReadingLent
 lent_to w h pixels lent s =
@@ -48,11 +65,17 @@ lent_to w h pixels lent s =
       settings = s;
       bytes = lent.bytes;
       u64s = lent.u64s;
+      open_tiles = own_open_tiles;
     }
 
--- what it leaves of the buffers
-abbrev pub left_by : Buffers → ReadingLeft
-left_by left = record { dst = left.dst; bytes = left.bytes; u64s = left.u64s }
+-- what it leaves of them: the count buffer, which nobody else sees, as the reading leaves it
+abbrev pub left_by : ReadingLent → Buffers → ReadingLeft
+left_by lent left = record {
+  dst = left.dst;
+  bytes = left.bytes;
+  u64s = left.u64s;
+  open_tiles = kept_by (first (reading_conditions lent)) (open_tiles_from lent) lent.open_tiles;
+}
 
 -- what a reading answers to what it is lent
 abbrev pub read_of : ReadingLent → Answer ReadingNumbers
@@ -70,7 +93,10 @@ answer_of w h (refused n) = refused_line n
 -- the answer to a picture: its line is written, and the destination and the workspaces are as the reading leaves them
 pub record AnswersPicture (w h : ℕ) (pixels : List ℕ) (lent : Buffers) (answer : Option ℕ) (left : Buffers) : Type 0 where
   pub writes : Writes (answer_of w h (read_of (lent_to w h pixels lent settings))) lent.out answer left.out
-  pub reads : Reads (lent_to w h pixels lent settings) (read_of (lent_to w h pixels lent settings)) (left_by left)
+  pub reads :
+      Reads (lent_to w h pixels lent settings)
+      (read_of (lent_to w h pixels lent settings))
+      (left_by (lent_to w h pixels lent settings) left)
 
 -- the answer to an input that is no picture: refusal 11 is written, and every other buffer is as it was
 pub record AnswersMalformed (lent : Buffers) (answer : Option ℕ) (left : Buffers) : Type 0 where

@@ -30,8 +30,11 @@ pub const INPUT: usize = HEADER + PIXELS + 1;
 // The length of a buffer that holds any line.
 pub const LINE: usize = pgm::LINE_ROOM;
 
-// The tiles of the largest picture, each 16 × 16.
-const TILES: usize = 4 * 4;
+// The tiles along the longest side, each 16 × 16.
+const TILES_ALONG: usize = 4;
+
+// The tiles of the largest picture.
+const TILES: usize = TILES_ALONG * TILES_ALONG;
 
 // The byte workspace that a reading of the largest picture asks for: 9wh + 2t bytes, 32,432.
 const BYTES: usize = imgproc::reading::PLANES * PIXELS + 2 * TILES;
@@ -77,7 +80,8 @@ fn write_read(
 }
 
 // Reads a picture without padding, and writes the line of its answer. The buffers are parameters of their own, as the
-// reading takes them: a struct of them would only be taken apart again.
+// reading takes them: a struct of them would only be taken apart again. The count buffer, which the line does not
+// need, is made here.
 fn answer_picture(
     picture: Picture<'_>,
     dst: &mut [u8],
@@ -106,7 +110,17 @@ fn answer_picture(
         stride: width,
     };
     let config = settings();
-    let read = imgproc::reading::reading(pixels, geometry, dst, geometry, config, bytes, u64s);
+    let mut open_tiles = [0u16; TILES_ALONG];
+    let read = imgproc::reading::reading(
+        pixels,
+        geometry,
+        dst,
+        geometry,
+        config,
+        bytes,
+        u64s,
+        &mut open_tiles,
+    );
     write_read(width, height, read, out)
 }
 
