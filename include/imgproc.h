@@ -34,8 +34,8 @@
 #endif
 
 /* The version, and the number of the calling form, which changes whenever a declaration changes. */
-#define IMGPROC_VERSION "0.2.0"
-#define IMGPROC_ABI 2
+#define IMGPROC_VERSION "0.3.0"
+#define IMGPROC_ABI 3
 
 /* The largest side of a picture. */
 #define IMGPROC_MAX_SIDE 4096
@@ -55,14 +55,14 @@ enum imgproc_refusal {
     IMGPROC_INVALID_KERNEL = 6,        /* the kernel is even or below 3 */
     IMGPROC_INVALID_CONFIGURATION = 7, /* a setting is out of range */
     IMGPROC_WORKSPACE_TOO_SMALL = 8,   /* the range to copy to, or the workspace, is too short */
-    IMGPROC_OUTSIDE_PICTURE = 9,       /* the pixel or row lies outside the picture */
-    IMGPROC_GRID_BUFFER_TOO_SMALL = 10 /* a buffer of thresholds or skips is too short */
+    IMGPROC_OUTSIDE_PICTURE = 9,       /* the pixel or row lies outside the picture, or the tile outside the grid */
+    IMGPROC_GRID_BUFFER_TOO_SMALL = 10 /* a buffer of thresholds, skips or counts of open tiles is too short */
 };
 
 /* Returns the number of the archive's calling form, which its name holds too. Each file that includes this header
    refers to the name, so that an archive of another calling form does not link: it lacks the name. Nobody has to call
    it. */
-uint32_t imgproc_abi_2(void);
+uint32_t imgproc_abi_3(void);
 #if defined(__has_attribute)
 #if __has_attribute(retain)
 #define IMGPROC_KEPT __attribute__((used, retain))
@@ -74,7 +74,7 @@ uint32_t imgproc_abi_2(void);
 #ifndef IMGPROC_KEPT
 #define IMGPROC_KEPT
 #endif
-static uint32_t (*const imgproc_abi_kept)(void) IMGPROC_KEPT = imgproc_abi_2;
+static uint32_t (*const imgproc_abi_kept)(void) IMGPROC_KEPT = imgproc_abi_3;
 #undef IMGPROC_KEPT
 
 /* Tells whether a range of len bytes holds the picture. Refused: layout. */
@@ -169,19 +169,21 @@ uint32_t imgproc_sauvola_into(const uint8_t *src, size_t src_len,
    the first t bytes of thresholds and of skips; later bytes stay. *tiles_x receives width / tile_width, rounded up,
    *tiles_y likewise; t is their product. For each tile the pixels of all tiles within neighborhood_radius on both axes
    give minimum, maximum, sum S, sum of squares Q and count c. A tile is skipped if maximum - minimum is below
-   contrast_floor. With method 0 the base of its threshold is (minimum + maximum) / 2, rounded down; k and dynamic_range
-   do not matter. With method 1 each step is rounded once to a double: mean = S / c; variance = Q / c - mean * mean, or
-   0 if that is below 0; value = mean * (1 + k * (root(variance) / dynamic_range - 1)). The base is then the number of
-   whole i from 0 to 254 with value >= i + 0.5. The threshold is base + threshold_offset, cut to 0..255. Refused:
-   layout, then 7 if a tile side is 0, method is neither 0 nor 1 or, with method 1, k or dynamic_range is not finite or
-   dynamic_range not above 0, then 8 if workspace_len is below 5 * t numbers, then 10 if thresholds_len or skips_len is
-   below t. */
+   contrast_floor. A tile that is not skipped is open: the first numbers of open_tiles receive the number of open tiles
+   of each tile row, and later ones stay. With method 0 the base of a tile's threshold is (minimum + maximum) / 2,
+   rounded down; k and dynamic_range do not matter. With method 1 each step is rounded once to a double: mean = S / c;
+   variance = Q / c - mean * mean, or 0 if that is below 0; value = mean * (1 + k * (root(variance) / dynamic_range -
+   1)). The base is then the number of whole i from 0 to 254 with value >= i + 0.5. The threshold is base +
+   threshold_offset, cut to 0..255. Refused: layout, then 7 if a tile side is 0, method is neither 0 nor 1 or, with
+   method 1, k or dynamic_range is not finite or dynamic_range not above 0, then 8 if workspace_len is below 5 * t
+   numbers, then 10 if thresholds_len or skips_len is below t or open_tiles_len below the number of tile rows. */
 uint32_t imgproc_tile_grid_build(const uint8_t *src, size_t src_len, size_t width, size_t height, size_t stride,
                                  size_t tile_width, size_t tile_height, size_t neighborhood_radius,
                                  int16_t threshold_offset, uint8_t contrast_floor,
                                  uint32_t method, double k, double dynamic_range,
                                  uint64_t *workspace, size_t workspace_len,
                                  uint8_t *thresholds, size_t thresholds_len, uint8_t *skips, size_t skips_len,
+                                 uint16_t *open_tiles, size_t open_tiles_len,
                                  size_t *tiles_x, size_t *tiles_y);
 
 /* Puts the threshold of the tile that holds pixel (x, y) into *value. Refused: 7 if a side is not in
@@ -197,23 +199,38 @@ uint32_t imgproc_is_skip(size_t width, size_t height, size_t tile_width, size_t 
                          size_t tiles_x, size_t tiles_y, const uint8_t *skips, size_t len,
                          size_t x, size_t y, uint8_t *value);
 
-/* Puts 1 into *value if every tile of the tile row that holds row y is skipped, else 0. Refused as
-   imgproc_threshold_at. */
+/* Puts 1 into *value if every tile of the tile row that holds row y is skipped, that is if the row's number in
+   open_tiles is 0; else 0. Refused as imgproc_threshold_at, with 10 if len is below tiles_y numbers. */
 uint32_t imgproc_row_all_skip(size_t width, size_t height, size_t tile_width, size_t tile_height,
-                              size_t tiles_x, size_t tiles_y, const uint8_t *skips, size_t len,
+                              size_t tiles_x, size_t tiles_y, const uint16_t *open_tiles, size_t len,
                               size_t y, uint8_t *value);
+
+/* imgproc_blank_tile skips a tile by hand, imgproc_clear_tile takes its skip away. They set the skip byte of the tile
+   in column tile_column and row tile_row of the grid, both counted from 0, to 1 or to 0. Then they count the open tiles
+   of that tile row afresh from the skip bytes, so the number that open_tiles held for the row does not matter. No other
+   byte or number changes. A tile may be skipped already, or open. Refused: 7 as imgproc_threshold_at; then 10 if
+   skips_len is below tiles_x * tiles_y or open_tiles_len below tiles_y numbers; then 9 if tile_column is not below
+   tiles_x or tile_row not below tiles_y. */
+uint32_t imgproc_blank_tile(size_t width, size_t height, size_t tile_width, size_t tile_height,
+                            size_t tiles_x, size_t tiles_y, uint8_t *skips, size_t skips_len,
+                            uint16_t *open_tiles, size_t open_tiles_len, size_t tile_column, size_t tile_row);
+uint32_t imgproc_clear_tile(size_t width, size_t height, size_t tile_width, size_t tile_height,
+                            size_t tiles_x, size_t tiles_y, uint8_t *skips, size_t skips_len,
+                            uint16_t *open_tiles, size_t open_tiles_len, size_t tile_column, size_t tile_row);
 
 /* Reads a picture: judges each pixel dark, light or skipped, and counts the three. The call divides the picture by its
    background with structuring_element, target_luma and denominator_floor, as imgproc_background_divide_into does, and
    opens the result with opening_kernel, as imgproc_grayscale_open_into does. In the opened picture it skips the tiles
    that imgproc_tile_grid_build would skip with the next eight settings. Every other pixel is dark or light as
    imgproc_sauvola_into would judge it with the next five. The call writes dark_value for a dark pixel and light_value
-   for a light or skipped one to the rows of dst, and no other byte of dst. *dark, *light and *skipped receive the
-   number of pixels of each kind, *comparisons the number of comparisons of samples in the closing and the opening. With
-   t the number of tiles, refused: layout of src, layout of dst, 5, then 7 for the settings of the division, 6 if
-   opening_kernel is even or below 3, 7 for the settings of the grid, method included, 7 for those of the threshold,
-   then 8 if bytes_len is below 9 * width * height + 2 * t or u64s_len below 2 * (width + 1) * (height + 1) + 5 * t
-   numbers. */
+   for a light or skipped one to the rows of dst, and no other byte of dst. The first numbers of open_tiles receive the
+   number of open tiles of each tile row, as in a build, and later ones stay. A reading makes its own skips: tiles that
+   were blanked by hand do not enter it. *dark, *light and *skipped receive the number of pixels of each kind,
+   *comparisons the number of comparisons of samples in the closing and the opening. With t the number of tiles,
+   refused: layout of src, layout of dst, 5, then 7 for the settings of the division, 6 if opening_kernel is even or
+   below 3, 7 for the settings of the grid, method included, 7 for those of the threshold, then 8 if bytes_len is below
+   9 * width * height + 2 * t or u64s_len below 2 * (width + 1) * (height + 1) + 5 * t numbers, then 10 if
+   open_tiles_len is below the number of tile rows, height / tile_height, rounded up. */
 uint32_t imgproc_reading(const uint8_t *src, size_t src_len, size_t src_width, size_t src_height, size_t src_stride,
                          uint8_t *dst, size_t dst_len, size_t dst_width, size_t dst_height, size_t dst_stride,
                          size_t structuring_element, uint8_t target_luma, uint8_t denominator_floor,
@@ -224,6 +241,7 @@ uint32_t imgproc_reading(const uint8_t *src, size_t src_len, size_t src_width, s
                          size_t radius, uint32_t k_milli, uint32_t sauvola_dynamic_range,
                          uint8_t dark_value, uint8_t light_value,
                          uint8_t *bytes, size_t bytes_len, uint64_t *u64s, size_t u64s_len,
+                         uint16_t *open_tiles, size_t open_tiles_len,
                          uint64_t *dark, uint64_t *light, uint64_t *skipped, uint64_t *comparisons);
 
 /* Returns the square root of x, correctly rounded. The root of -0.0 is -0.0; the root of a NaN or of a value below zero

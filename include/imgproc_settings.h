@@ -41,6 +41,12 @@ struct imgproc_u64s {
     size_t len;
 };
 
+/* A buffer of the number of open tiles of each tile row: those that are not skipped. len counts numbers, not bytes. */
+struct imgproc_open_tiles {
+    uint16_t *data;
+    size_t len;
+};
+
 /* Settings of imgproc_divide. */
 struct imgproc_division_settings {
     size_t structuring_element; /* kernel of the closing that gives the background: odd, at least 3 */
@@ -118,7 +124,7 @@ struct imgproc_counts {
     uint64_t comparisons; /* of samples, in the closing and the opening */
 };
 
-/* The sizes of a grid, as a query takes them. */
+/* The sizes of a grid, as the calls to a built grid take them. */
 struct imgproc_grid {
     size_t width;
     size_t height;
@@ -127,6 +133,17 @@ struct imgproc_grid {
     size_t tiles_x;
     size_t tiles_y;
 };
+
+/* Returns the sizes of the grid that a build or a reading lays over a picture; no tiles if a tile side is 0. */
+static inline struct imgproc_grid imgproc_grid_of(size_t width, size_t height,
+                                                  const struct imgproc_grid_settings *settings) {
+    struct imgproc_grid grid = {width, height, settings->tile_width, settings->tile_height, 0, 0};
+    if (grid.tile_width != 0 && grid.tile_height != 0) {
+        grid.tiles_x = width / grid.tile_width + (width % grid.tile_width != 0);
+        grid.tiles_y = height / grid.tile_height + (height % grid.tile_height != 0);
+    }
+    return grid;
+}
 
 /* Returns an answer in words. */
 static inline const char *imgproc_refusal_words(uint32_t number) {
@@ -140,7 +157,7 @@ static inline const char *imgproc_refusal_words(uint32_t number) {
     case IMGPROC_INVALID_KERNEL: return "the kernel is even or below 3";
     case IMGPROC_INVALID_CONFIGURATION: return "a setting is out of range";
     case IMGPROC_WORKSPACE_TOO_SMALL: return "the workspace is too short";
-    case IMGPROC_OUTSIDE_PICTURE: return "the place lies outside the picture";
+    case IMGPROC_OUTSIDE_PICTURE: return "the place lies outside the picture or the grid";
     case IMGPROC_GRID_BUFFER_TOO_SMALL: return "a grid buffer is too short";
     default: return "the reason is not known here";
     }
@@ -158,8 +175,8 @@ static inline size_t imgproc_u64_count(size_t count) {
     return count > SIZE_MAX / sizeof(uint64_t) ? SIZE_MAX / sizeof(uint64_t) : count;
 }
 
-/* The next functions return the lengths of workspaces. For a picture or settings that will be refused the length means
-   nothing. */
+/* The next functions return the lengths of workspaces and buffers. For a picture or settings that will be refused the
+   length means nothing. */
 
 /* Returns the bytes that an erosion, a dilation, an opening or a closing needs. */
 static inline size_t imgproc_sweep_bytes(size_t width, size_t height) {
@@ -179,10 +196,15 @@ static inline size_t imgproc_sauvola_u64s(size_t width, size_t height) {
 /* Returns the number of tiles of a picture, which is also the length of its thresholds and of its skips; 0 if a tile
    side is 0. */
 static inline size_t imgproc_tiles(size_t width, size_t height, const struct imgproc_grid_settings *settings) {
-    if (settings->tile_width == 0 || settings->tile_height == 0)
-        return 0;
-    return imgproc_times(width / settings->tile_width + (width % settings->tile_width != 0),
-                         height / settings->tile_height + (height % settings->tile_height != 0));
+    const struct imgproc_grid grid = imgproc_grid_of(width, height, settings);
+    return imgproc_times(grid.tiles_x, grid.tiles_y);
+}
+
+/* Returns the number of tile rows of a picture, which is also the length of its counts of open tiles, for a build and
+   for a reading; 0 if a tile side is 0. */
+static inline size_t imgproc_tile_rows(size_t width, size_t height, const struct imgproc_grid_settings *settings) {
+    const size_t rows = imgproc_grid_of(width, height, settings).tiles_y;
+    return rows > SIZE_MAX / sizeof(uint16_t) ? SIZE_MAX / sizeof(uint16_t) : rows;
 }
 
 /* Returns the u64s that imgproc_build_grid needs. */
@@ -229,14 +251,16 @@ static inline uint32_t imgproc_binarize(struct imgproc_source src, struct imgpro
 /* Calls imgproc_tile_grid_build. A refused call leaves *grid as it was. */
 static inline uint32_t imgproc_build_grid(struct imgproc_source src, const struct imgproc_grid_settings *settings,
                                           struct imgproc_u64s workspace, struct imgproc_bytes thresholds,
-                                          struct imgproc_bytes skips, struct imgproc_grid *grid) {
+                                          struct imgproc_bytes skips, struct imgproc_open_tiles open_tiles,
+                                          struct imgproc_grid *grid) {
     size_t tiles_x = 0, tiles_y = 0;
     const uint32_t answer = imgproc_tile_grid_build(
         src.data, src.len, src.width, src.height, src.stride,
         settings->tile_width, settings->tile_height, settings->neighborhood_radius,
         settings->threshold_offset, settings->contrast_floor,
         settings->method, settings->k, settings->dynamic_range,
-        workspace.data, workspace.len, thresholds.data, thresholds.len, skips.data, skips.len, &tiles_x, &tiles_y);
+        workspace.data, workspace.len, thresholds.data, thresholds.len, skips.data, skips.len,
+        open_tiles.data, open_tiles.len, &tiles_x, &tiles_y);
     if (answer == IMGPROC_ACCEPTED) {
         grid->width = src.width;
         grid->height = src.height;
@@ -259,17 +283,34 @@ static inline uint32_t imgproc_grid_is_skip(const struct imgproc_grid *grid, str
     return imgproc_is_skip(grid->width, grid->height, grid->tile_width, grid->tile_height,
                            grid->tiles_x, grid->tiles_y, skips.data, skips.len, x, y, value);
 }
-static inline uint32_t imgproc_grid_row_all_skip(const struct imgproc_grid *grid, struct imgproc_bytes skips,
+static inline uint32_t imgproc_grid_row_all_skip(const struct imgproc_grid *grid, struct imgproc_open_tiles open_tiles,
                                                  size_t y, uint8_t *value) {
     return imgproc_row_all_skip(grid->width, grid->height, grid->tile_width, grid->tile_height,
-                                grid->tiles_x, grid->tiles_y, skips.data, skips.len, y, value);
+                                grid->tiles_x, grid->tiles_y, open_tiles.data, open_tiles.len, y, value);
 }
 
-/* Calls imgproc_reading. A refused call leaves *counts as it was. */
+/* Call imgproc_blank_tile and imgproc_clear_tile. */
+static inline uint32_t imgproc_grid_blank_tile(const struct imgproc_grid *grid, struct imgproc_bytes skips,
+                                               struct imgproc_open_tiles open_tiles,
+                                               size_t tile_column, size_t tile_row) {
+    return imgproc_blank_tile(grid->width, grid->height, grid->tile_width, grid->tile_height,
+                              grid->tiles_x, grid->tiles_y, skips.data, skips.len,
+                              open_tiles.data, open_tiles.len, tile_column, tile_row);
+}
+static inline uint32_t imgproc_grid_clear_tile(const struct imgproc_grid *grid, struct imgproc_bytes skips,
+                                               struct imgproc_open_tiles open_tiles,
+                                               size_t tile_column, size_t tile_row) {
+    return imgproc_clear_tile(grid->width, grid->height, grid->tile_width, grid->tile_height,
+                              grid->tiles_x, grid->tiles_y, skips.data, skips.len,
+                              open_tiles.data, open_tiles.len, tile_column, tile_row);
+}
+
+/* Calls imgproc_reading. A refused call leaves *counts as it was. The counts of open tiles answer
+   imgproc_grid_row_all_skip, for the grid of imgproc_grid_of. */
 static inline uint32_t imgproc_read(struct imgproc_source src, struct imgproc_destination dst,
                                     const struct imgproc_reading_settings *settings,
                                     struct imgproc_bytes bytes, struct imgproc_u64s u64s,
-                                    struct imgproc_counts *counts) {
+                                    struct imgproc_open_tiles open_tiles, struct imgproc_counts *counts) {
     return imgproc_reading(src.data, src.len, src.width, src.height, src.stride,
                            dst.data, dst.len, dst.width, dst.height, dst.stride,
                            settings->division.structuring_element, settings->division.target_luma,
@@ -280,7 +321,7 @@ static inline uint32_t imgproc_read(struct imgproc_source src, struct imgproc_de
                            settings->grid.method, settings->grid.k, settings->grid.dynamic_range,
                            settings->sauvola.radius, settings->sauvola.k_milli, settings->sauvola.dynamic_range,
                            settings->sauvola.dark_value, settings->sauvola.light_value,
-                           bytes.data, bytes.len, u64s.data, u64s.len,
+                           bytes.data, bytes.len, u64s.data, u64s.len, open_tiles.data, open_tiles.len,
                            &counts->dark, &counts->light, &counts->skipped, &counts->comparisons);
 }
 

@@ -1,6 +1,7 @@
 /* Compares the named calls of imgproc_settings.h with the flat ones: both must give the same numbers, bytes and counts,
-   over good and bad settings, layouts and lengths. Prints how many calls were compared, or the first difference. For
-   C99 and C++11. */
+   over good and bad settings, layouts and lengths. Compares the calls that skip a tile by hand, and what they leave,
+   with what looking at every tile says. Prints how many calls were compared, or the first difference. For C99 and
+   C++11. */
 #include <stdio.h>
 #include <stdlib.h>
 #include <string.h>
@@ -12,7 +13,7 @@
 #define U64S (9 * ROOM)
 
 static uint64_t state = 1;
-static unsigned compared = 0, accepted = 0, refused = 0;
+static unsigned compared = 0, refused = 0, readings[2] = {0, 0};
 
 /* Returns a number below n. */
 static size_t below(size_t n) {
@@ -31,6 +32,7 @@ static void check(int holds, const char *what) {
 static uint8_t picture[ROOM];
 static uint8_t dst[2][ROOM], bytes[2][BYTES], thresholds[2][ROOM], skips[2][ROOM];
 static uint64_t u64s[2][U64S];
+static uint16_t open_tiles[2][ROOM];
 
 static void fill(void) {
     size_t i;
@@ -38,7 +40,8 @@ static void fill(void) {
         picture[i] = (uint8_t)below(256);
         dst[0][i] = dst[1][i] = (uint8_t)below(256);
         thresholds[0][i] = thresholds[1][i] = (uint8_t)below(256);
-        skips[0][i] = skips[1][i] = (uint8_t)below(256);
+        skips[0][i] = skips[1][i] = (uint8_t)(below(2) * below(256));
+        open_tiles[0][i] = open_tiles[1][i] = (uint16_t)(below(2) * below(65536));
     }
     memset(bytes, (int)below(256), sizeof bytes);
     memset(u64s, (int)below(256), sizeof u64s);
@@ -46,13 +49,123 @@ static void fill(void) {
 
 static void same(uint32_t named, uint32_t flat, const char *what) {
     compared++;
-    if (flat == IMGPROC_ACCEPTED) accepted++; else refused++;
+    if (flat != IMGPROC_ACCEPTED) refused++;
     check(named == flat, what);
     check(memcmp(dst[0], dst[1], sizeof dst[0]) == 0, what);
     check(memcmp(bytes[0], bytes[1], sizeof bytes[0]) == 0, what);
     check(memcmp(u64s[0], u64s[1], sizeof u64s[0]) == 0, what);
     check(memcmp(thresholds[0], thresholds[1], sizeof thresholds[0]) == 0, what);
     check(memcmp(skips[0], skips[1], sizeof skips[0]) == 0, what);
+    check(memcmp(open_tiles[0], open_tiles[1], sizeof open_tiles[0]) == 0, what);
+}
+
+/* Blanks tile (i, j), or clears it if skip is 0, by the named call and by the flat one. Checks that an accepted call
+   sets the tile's byte and counts its row, and that no other byte or number changes. Returns the answer. */
+static uint32_t set_skip(const struct imgproc_grid *grid, uint8_t skip, size_t skips_len, size_t rows, size_t i,
+                         size_t j) {
+    static uint8_t left[ROOM];
+    static uint16_t counts[ROOM];
+    const struct imgproc_bytes lent_skips = {skips[0], skips_len};
+    const struct imgproc_open_tiles lent_open = {open_tiles[0], rows};
+    uint32_t named, flat;
+    size_t t;
+    memcpy(left, skips[0], sizeof left);
+    memcpy(counts, open_tiles[0], sizeof counts);
+    if (skip) {
+        named = imgproc_grid_blank_tile(grid, lent_skips, lent_open, i, j);
+        flat = imgproc_blank_tile(grid->width, grid->height, grid->tile_width, grid->tile_height, grid->tiles_x,
+                                  grid->tiles_y, skips[1], skips_len, open_tiles[1], rows, i, j);
+    } else {
+        named = imgproc_grid_clear_tile(grid, lent_skips, lent_open, i, j);
+        flat = imgproc_clear_tile(grid->width, grid->height, grid->tile_width, grid->tile_height, grid->tiles_x,
+                                  grid->tiles_y, skips[1], skips_len, open_tiles[1], rows, i, j);
+    }
+    same(named, flat, skip ? "imgproc_grid_blank_tile" : "imgproc_grid_clear_tile");
+    if (flat == IMGPROC_ACCEPTED) {
+        left[j * grid->tiles_x + i] = skip;
+        for (counts[j] = 0, t = 0; t < grid->tiles_x; t++)
+            if (left[j * grid->tiles_x + t] == 0)
+                counts[j]++;
+    }
+    check(memcmp(left, skips[1], sizeof left) == 0, "the skips after a tile was blanked or cleared");
+    check(memcmp(counts, open_tiles[1], sizeof counts) == 0, "the counts after a tile was blanked or cleared");
+    return flat;
+}
+
+/* Asks for the tile row of row y by the named call and by the flat one, and returns the answer. */
+static uint32_t row_all_skip(const struct imgproc_grid *grid, size_t rows, size_t y, uint8_t *value) {
+    const struct imgproc_open_tiles lent_open = {open_tiles[0], rows};
+    uint8_t other = *value;
+    const uint32_t named = imgproc_grid_row_all_skip(grid, lent_open, y, value);
+    const uint32_t flat = imgproc_row_all_skip(grid->width, grid->height, grid->tile_width, grid->tile_height,
+                                               grid->tiles_x, grid->tiles_y, open_tiles[1], rows, y, &other);
+    same(named, flat, "imgproc_grid_row_all_skip");
+    check(*value == other, "a row's skip");
+    return flat;
+}
+
+/* Blanks and clears tiles of a grid that was built, and checks each time that every row is answered as looking at every
+   tile answers it. */
+static void blank_and_clear(const struct imgproc_grid *grid) {
+    const size_t tiles = grid->tiles_x * grid->tiles_y;
+    int calls;
+    for (calls = 0; calls < 6; calls++) {
+        const size_t i = below(grid->tiles_x + 1), j = below(grid->tiles_y + 1);
+        const int inside = i < grid->tiles_x && j < grid->tiles_y;
+        size_t y, t;
+        /* A false number of the row does no harm. */
+        if (inside && below(2))
+            open_tiles[0][j] = open_tiles[1][j] = (uint16_t)below(65536);
+        check(set_skip(grid, below(3) != 0, tiles, grid->tiles_y, i, j) ==
+                  (uint32_t)(inside ? IMGPROC_ACCEPTED : IMGPROC_OUTSIDE_PICTURE), "a tile inside or outside");
+        for (y = 0; y < grid->height; y++) {
+            uint8_t value = 9, all = 1;
+            for (t = 0; t < grid->tiles_x; t++)
+                if (skips[0][y / grid->tile_height * grid->tiles_x + t] == 0)
+                    all = 0;
+            check(row_all_skip(grid, grid->tiles_y, y, &value) == IMGPROC_ACCEPTED && value == all,
+                  "a row is answered as looking at every tile answers it");
+        }
+    }
+}
+
+/* Returns the answer of a call to a grid: the first reason that fits. */
+static uint32_t first_of(int bad_grid, int short_buffer, int outside) {
+    if (bad_grid)
+        return IMGPROC_INVALID_CONFIGURATION;
+    if (short_buffer)
+        return IMGPROC_GRID_BUFFER_TOO_SMALL;
+    return outside ? IMGPROC_OUTSIDE_PICTURE : IMGPROC_ACCEPTED;
+}
+
+/* Checks each reason to refuse these calls alone, and of several the first. */
+static void check_blanking(void) {
+    /* The first is good. */
+    static const struct imgproc_grid grids[] = {
+        {20, 15, 4, 5, 5, 3}, {0, 15, 4, 5, 0, 3}, {20, 0, 4, 5, 5, 0}, {4097, 15, 4, 5, 1025, 3},
+        {20, 4097, 4, 5, 5, 820}, {20, 15, 0, 5, 5, 3}, {20, 15, 4, 0, 5, 3}, {20, 15, 4, 5, 4, 3},
+        {20, 15, 4, 5, 6, 3}, {20, 15, 4, 5, 5, 2}, {20, 15, 4, 5, 5, 4}, {20, 15, 4, 5, SIZE_MAX, SIZE_MAX}};
+    static const size_t lengths[] = {15, 14, 0, 16}, rows[] = {3, 2, 0, 4};
+    static const size_t columns[] = {0, 4, 5, SIZE_MAX}, lines[] = {0, 2, 3, SIZE_MAX}, ys[] = {0, 14, 15, SIZE_MAX};
+    size_t g, a, b, c, d;
+    for (g = 0; g < sizeof grids / sizeof *grids; g++)
+        for (b = 0; b < 4; b++) {
+            fill();
+            for (d = 0; d < 4; d++) {
+                const uint32_t first = first_of(g != 0, rows[b] < 3, ys[d] >= 15);
+                uint8_t value = 9;
+                check(row_all_skip(&grids[g], rows[b], ys[d], &value) == first, "a row's answer");
+                check(value == (first != IMGPROC_ACCEPTED ? 9 : open_tiles[0][ys[d] / 5] == 0), "a row's value");
+            }
+            for (a = 0; a < 4; a++)
+                for (c = 0; c < 4; c++)
+                    for (d = 0; d < 4; d++) {
+                        const uint32_t first =
+                            first_of(g != 0, lengths[a] < 15 || rows[b] < 3, columns[c] >= 5 || lines[d] >= 3);
+                        check(set_skip(&grids[g], 1, lengths[a], rows[b], columns[c], lines[d]) == first, "blanking");
+                        check(set_skip(&grids[g], 0, lengths[a], rows[b], columns[c], lines[d]) == first, "clearing");
+                    }
+        }
 }
 
 /* Returns good settings, or settings with one number out of range. */
@@ -91,16 +204,40 @@ static struct imgproc_reading_settings some_settings(void) {
     return s;
 }
 
+/* Counts the open tiles of a picture that is flattened and opened as in a reading. */
+static uint16_t counted[ROOM];
+
+static void count_opened(const struct imgproc_source *src, const struct imgproc_reading_settings *s) {
+    static uint8_t raised[ROOM], opened[ROOM], workspace[BYTES], some_thresholds[ROOM], some_skips[ROOM];
+    static uint64_t tiles[U64S];
+    const size_t w = src->width, h = src->height, area = w * h;
+    const struct imgproc_destination to = {raised, area, w, h, w};
+    const struct imgproc_source from = {opened, area, w, h, w};
+    const struct imgproc_bytes lent_bytes = {workspace, BYTES}, lent_thresholds = {some_thresholds, ROOM},
+                               lent_skips = {some_skips, ROOM};
+    const struct imgproc_u64s lent_u64s = {tiles, U64S};
+    const struct imgproc_open_tiles lent_open = {counted, ROOM};
+    struct imgproc_grid grid;
+    uint64_t comparisons;
+    check(imgproc_divide(*src, to, &s->division, lent_bytes, &comparisons) == IMGPROC_ACCEPTED &&
+              imgproc_grayscale_open_into(raised, area, w, h, w, opened, area, w, h, w, s->opening_kernel, workspace,
+                                          BYTES, &comparisons) == IMGPROC_ACCEPTED &&
+              imgproc_build_grid(from, &s->grid, lent_u64s, lent_thresholds, lent_skips, lent_open, &grid) ==
+                  IMGPROC_ACCEPTED,
+          "the steps of a reading");
+}
+
 static void compare_calls(void) {
     const struct imgproc_reading_settings s = some_settings();
     struct imgproc_source src;
     struct imgproc_destination to;
     struct imgproc_bytes lent_bytes, lent_thresholds, lent_skips;
     struct imgproc_u64s lent_u64s;
+    struct imgproc_open_tiles lent_open;
     struct imgproc_counts counts, left;
-    struct imgproc_grid grid;
+    struct imgproc_grid grid, sizes;
     uint64_t comparisons[2] = {7, 7}, dark = 1, light = 2, skipped = 3, tally = 4;
-    size_t tiles_x = 0, tiles_y = 0, x, y, off = below(12);
+    size_t tiles_x = 0, tiles_y = 0, x, y, off = below(16);
     uint8_t value[2] = {9, 9};
     uint32_t named, flat;
 
@@ -123,9 +260,13 @@ static void compare_calls(void) {
     lent_thresholds.data = thresholds[0];
     lent_skips.data = skips[0];
     lent_thresholds.len = lent_skips.len = imgproc_tiles(src.width, src.height, &s.grid);
+    lent_open.data = open_tiles[0];
+    lent_open.len = imgproc_tile_rows(src.width, src.height, &s.grid);
+    lent_open.len -= (off == 6 || off == 7) && lent_open.len != 0;
 
     /* Each workspace is as long as the header's function says, or one short: then the call returns 8 unless an earlier
-       reason fits. */
+       reason fits. The buffers of a grid too; then it returns 10. If off is 7, both a workspace and a buffer are
+       short. */
     fill();
     lent_bytes.len = imgproc_division_bytes(src.width, src.height) - (off == 4);
     named = imgproc_divide(src, to, &s.division, lent_bytes, &comparisons[0]);
@@ -150,19 +291,22 @@ static void compare_calls(void) {
 
     fill();
     memset(&grid, 77, sizeof grid);
-    lent_u64s.len = imgproc_grid_u64s(src.width, src.height, &s.grid) - (off == 4 && lent_skips.len != 0);
+    lent_u64s.len = imgproc_grid_u64s(src.width, src.height, &s.grid);
+    lent_u64s.len -= (off == 4 || off == 7) && lent_skips.len != 0;
     lent_skips.len -= off == 5 && lent_skips.len != 0;
-    named = imgproc_build_grid(src, &s.grid, lent_u64s, lent_thresholds, lent_skips, &grid);
+    named = imgproc_build_grid(src, &s.grid, lent_u64s, lent_thresholds, lent_skips, lent_open, &grid);
     flat = imgproc_tile_grid_build(picture, src.len, src.width, src.height, src.stride, s.grid.tile_width,
                                    s.grid.tile_height, s.grid.neighborhood_radius, s.grid.threshold_offset,
                                    s.grid.contrast_floor, s.grid.method, s.grid.k, s.grid.dynamic_range, u64s[1],
                                    lent_u64s.len, thresholds[1], lent_thresholds.len, skips[1], lent_skips.len,
-                                   &tiles_x, &tiles_y);
+                                   open_tiles[1], lent_open.len, &tiles_x, &tiles_y);
     same(named, flat, "imgproc_build_grid");
-    check((flat == IMGPROC_WORKSPACE_TOO_SMALL) <= (off == 4), "imgproc_grid_u64s");
-    check(off != 4 || flat != IMGPROC_ACCEPTED, "imgproc_grid_u64s is longer than needed");
-    check((flat == IMGPROC_GRID_BUFFER_TOO_SMALL) <= (off == 5), "imgproc_tiles");
+    check((flat == IMGPROC_WORKSPACE_TOO_SMALL) <= (off == 4 || off == 7), "imgproc_grid_u64s");
+    check((flat == IMGPROC_GRID_BUFFER_TOO_SMALL) <= (off == 5 || off == 6), "imgproc_tiles, imgproc_tile_rows");
+    check(off < 4 || off > 7 || flat != IMGPROC_ACCEPTED, "the lengths of a grid are longer than needed");
     if (flat == IMGPROC_ACCEPTED) {
+        sizes = imgproc_grid_of(src.width, src.height, &s.grid);
+        check(memcmp(&grid, &sizes, sizeof grid) == 0, "imgproc_grid_of");
         check(grid.width == src.width && grid.height == src.height && grid.tile_width == s.grid.tile_width &&
                   grid.tile_height == s.grid.tile_height && grid.tiles_x == tiles_x && grid.tiles_y == tiles_y,
               "the grid's sizes");
@@ -178,35 +322,38 @@ static void compare_calls(void) {
                                skips[1], lent_skips.len, x, y, &value[1]);
         same(named, flat, "imgproc_grid_is_skip");
         check(value[0] == value[1], "a skip");
-        named = imgproc_grid_row_all_skip(&grid, lent_skips, y, &value[0]);
-        flat = imgproc_row_all_skip(src.width, src.height, s.grid.tile_width, s.grid.tile_height, tiles_x, tiles_y,
-                                    skips[1], lent_skips.len, y, &value[1]);
-        same(named, flat, "imgproc_grid_row_all_skip");
-        check(value[0] == value[1], "a row's skip");
+        row_all_skip(&grid, lent_open.len, y, &value[0]);
+        blank_and_clear(&grid);
     }
 
     fill();
-    lent_bytes.len = imgproc_reading_bytes(src.width, src.height, &s) - (off == 4);
+    memcpy(counted, open_tiles[0], sizeof counted);
+    lent_bytes.len = imgproc_reading_bytes(src.width, src.height, &s) - (off == 4 || off == 7);
     lent_u64s.len = imgproc_reading_u64s(src.width, src.height, &s) - (off == 5);
     counts.dark = 1, counts.light = 2, counts.skipped = 3, counts.comparisons = 4;
     left = counts;
-    named = imgproc_read(src, to, &s, lent_bytes, lent_u64s, &counts);
+    named = imgproc_read(src, to, &s, lent_bytes, lent_u64s, lent_open, &counts);
     flat = imgproc_reading(picture, src.len, src.width, src.height, src.stride, dst[1], to.len, to.width, to.height,
                            to.stride, s.division.structuring_element, s.division.target_luma,
                            s.division.denominator_floor, s.opening_kernel, s.grid.tile_width, s.grid.tile_height,
                            s.grid.neighborhood_radius, s.grid.threshold_offset, s.grid.contrast_floor, s.grid.method,
                            s.grid.k, s.grid.dynamic_range, s.sauvola.radius, s.sauvola.k_milli,
                            s.sauvola.dynamic_range, s.sauvola.dark_value, s.sauvola.light_value, bytes[1],
-                           lent_bytes.len, u64s[1], lent_u64s.len, &dark, &light, &skipped, &tally);
+                           lent_bytes.len, u64s[1], lent_u64s.len, open_tiles[1], lent_open.len, &dark, &light,
+                           &skipped, &tally);
     same(named, flat, "imgproc_read");
     check(counts.dark == dark && counts.light == light && counts.skipped == skipped && counts.comparisons == tally,
           "the counts of a reading");
-    check((flat == IMGPROC_WORKSPACE_TOO_SMALL) <= (off == 4 || off == 5), "the lengths of a reading");
-    check((off != 4 && off != 5) || flat != IMGPROC_ACCEPTED, "the lengths of a reading are longer than needed");
-    if (flat == IMGPROC_ACCEPTED)
+    check((flat == IMGPROC_WORKSPACE_TOO_SMALL) <= (off == 4 || off == 5 || off == 7), "the lengths of a reading");
+    check((flat == IMGPROC_GRID_BUFFER_TOO_SMALL) <= (off == 6), "the rows of a reading");
+    check(off < 4 || off > 7 || flat != IMGPROC_ACCEPTED, "the lengths of a reading are longer than needed");
+    readings[flat == IMGPROC_ACCEPTED]++;
+    if (flat == IMGPROC_ACCEPTED) {
         check(dark + light + skipped == src.width * src.height, "the sum of the counts");
-    else
+        count_opened(&src, &s);
+    } else
         check(memcmp(&counts, &left, sizeof counts) == 0, "a refused reading changes the counts");
+    check(memcmp(counted, open_tiles[1], sizeof counted) == 0, "the counts of open tiles of a reading");
 }
 
 /* Checks that the defaults are the numbers of docs/BEHAVIOUR.md. */
@@ -216,14 +363,15 @@ static void compare_defaults(void) {
     const struct imgproc_destination to = {dst[0], 24 * 30, 24, 30, 24};
     const struct imgproc_bytes lent_bytes = {bytes[0], BYTES};
     const struct imgproc_u64s lent_u64s = {u64s[0], U64S};
+    const struct imgproc_open_tiles lent_open = {open_tiles[0], ROOM};
     struct imgproc_counts counts;
     uint64_t dark, light, skipped, tally;
     uint32_t named, flat;
     fill();
-    named = imgproc_read(src, to, &s, lent_bytes, lent_u64s, &counts);
+    named = imgproc_read(src, to, &s, lent_bytes, lent_u64s, lent_open, &counts);
     flat = imgproc_reading(picture, 24 * 30, 24, 30, 24, dst[1], 24 * 30, 24, 30, 24, 31, 200, 8, 3, 16, 16, 1, 0, 12,
-                           0, 0.0, 1.0, 8, 200, 128, 0, 255, bytes[1], BYTES, u64s[1], U64S, &dark, &light, &skipped,
-                           &tally);
+                           0, 0.0, 1.0, 8, 200, 128, 0, 255, bytes[1], BYTES, u64s[1], U64S, open_tiles[1], ROOM,
+                           &dark, &light, &skipped, &tally);
     same(named, flat, "the defaults");
     check(counts.dark == dark && counts.light == light && counts.skipped == skipped && counts.comparisons == tally,
           "the defaults' counts");
@@ -276,8 +424,12 @@ static void check_lengths(void) {
                       "imgproc_sauvola_u64s wraps");
                 check((double)imgproc_reading_u64s(w, h, &s) >= table * 0.99 ||
                           imgproc_reading_u64s(w, h, &s) == most, "imgproc_reading_u64s wraps");
-                check(imgproc_reading_u64s(w, h, &s) <= most && imgproc_grid_u64s(w, h, &s.grid) <= most,
+                check(imgproc_reading_u64s(w, h, &s) <= most && imgproc_grid_u64s(w, h, &s.grid) <= most &&
+                          imgproc_tile_rows(w, h, &s.grid) <= SIZE_MAX / sizeof(uint16_t),
                       "a length in bytes wraps");
+                check(t != 1 || imgproc_tile_rows(w, h, &s.grid) ==
+                                    (h < SIZE_MAX / sizeof(uint16_t) ? h : SIZE_MAX / sizeof(uint16_t)),
+                      "imgproc_tile_rows wraps");
                 check(t != 1 || (double)imgproc_grid_u64s(w, h, &s.grid) >= 5 * pixels * 0.99 ||
                           imgproc_grid_u64s(w, h, &s.grid) == most, "imgproc_grid_u64s wraps");
             }
@@ -297,9 +449,10 @@ int main(void) {
     check_lengths();
     check_columns();
     compare_defaults();
+    check_blanking();
     for (i = 0; i < 4000; i++)
         compare_calls();
-    check(accepted > 1000 && refused > 1000, "too few calls of one kind");
+    check(readings[0] > 1000 && readings[1] > 1000, "too few readings of one kind");
     printf("interface_test: %u calls agree, %u of them refused\n", compared, refused);
     return 0;
 }

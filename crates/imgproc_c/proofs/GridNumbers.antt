@@ -21,7 +21,6 @@ use Rattle.imgproc.specs.declared.grid.TileCounts.{TileCounts}
 use Rattle.imgproc.specs.GridCalls.{
   usable_method,
   grid_settings,
-  tile_count,
   grid_room,
   BuildLent,
   BuildLeft,
@@ -64,6 +63,7 @@ lent_with lent z m = record {
   workspace = lent.workspace;
   thresholds = lent.thresholds;
   skips = lent.skips;
+  open_tiles = lent.open_tiles;
 }
 
 -- a build by the method of a number, whose offset went through its 16 bits, makes the export's contract
@@ -83,7 +83,7 @@ builds {lent} {used} {told} {left} n k range fits is used-is b t =
     subst (λ (m : TileThresholdMethod). Builds (lent_with lent lent.settings.threshold_offset m) told left) (used-is ∙ sym is) by-offset in
     let g = lent.source in
     let room =
-    grid_room (tile_count lent.settings g.width g.height) (length lent.workspace) (length lent.thresholds) (length lent.skips) in
+    grid_room (tiles_from lent) (length lent.workspace) (length lent.thresholds) (length lent.skips) (length lent.open_tiles) in
     let view = view_conditions (length lent.src) g in
     let mine = grid_settings lent.settings in
     let theirs = method_conditions n then mine in
@@ -95,6 +95,7 @@ builds {lent} {used} {told} {left} n k range fits is used-is b t =
         answers = refl;
         thresholds_left = rw (sym same) own.thresholds_left;
         skips_left = rw (sym same) own.skips_left;
+        open_tiles_left = rw (sym same) own.open_tiles_left;
         workspace_left = rw (sym same) own.workspace_left;
       };
       tells = tells_as (own.answers ∙ ap (λ (c : Check). answer_by c (tiles_from lent)) same) t;

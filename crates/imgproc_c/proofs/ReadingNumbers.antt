@@ -42,6 +42,7 @@ lent_with lent z m =
       settings = reading_from s.division s.opening_kernel (settings_with s.grid z m) s.sauvola;
       bytes = lent.bytes;
       u64s = lent.u64s;
+      open_tiles = lent.open_tiles;
     }
 
 -- the method is refused where the grid's settings would be
@@ -75,7 +76,7 @@ reads {lent} {used} {told} {left} n k range fits is used-is b t =
     let own : Reads lent told left =
     subst (λ (m : TileThresholdMethod). Reads (lent_with lent s.grid.threshold_offset m) told left) (used-is ∙ sym is) by-offset in
     let pair = pair_conditions (length lent.src) lent.source (length lent.dst) lent.target in
-    let room = reading_room lent.source s (length lent.bytes) (length lent.u64s) in
+    let room = reading_room lent.source s (length lent.bytes) (length lent.u64s) (length lent.open_tiles) in
     let mine = reading_settings s in
     let theirs = number_settings n s in
     let same : first (reading_conditions lent) ≡ first (number_conditions n lent) =
@@ -86,6 +87,7 @@ reads {lent} {used} {told} {left} n k range fits is used-is b t =
         leaves = rw (sym same) own.leaves;
         bytes_left = rw (sym same) own.bytes_left;
         u64s_left = rw (sym same) own.u64s_left;
+        open_tiles_left = rw (sym same) own.open_tiles_left;
       };
       tells = tells_as (own.answers ∙ ap (λ (c : Check). answer_by c (numbers_from lent)) same) t;
     }

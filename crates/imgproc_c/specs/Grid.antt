@@ -1,7 +1,7 @@
--- Says what the export of the grid's build promises: it takes settings as flat numbers, the method as one.
--- Definitions only.
-use Rattle.std.specs.Prelude.{ℕ, zero, suc, ltb, ℤ, Float}
-use Rattle.image.specs.Answers.{Answer}
+-- Says what the exports of the grid's build, of `blank` and of `clear` promise: the build's takes settings as flat
+-- numbers, the method as one. Definitions only.
+use Rattle.std.specs.Prelude.{ℕ, zero, suc, ◌≡◌, ltb, ℤ, Float}
+use Rattle.image.specs.Answers.{Answer, answer_number, Bare, bare}
 use Rattle.imgproc.specs.declared.ImgProcError.TheVariants.{InvalidConfiguration}
 use Rattle.imgproc.specs.declared.grid.config.TileThresholdMethod.{TileThresholdMethod}
 use Rattle.imgproc.specs.declared.grid.config.TileThresholdMethod.TheVariants.{Midrange, Sauvola}
@@ -17,6 +17,7 @@ use Rattle.imgproc.specs.GridCalls.{
   build_conditions_by,
   BuildsBy,
 }
+use Rattle.imgproc.specs.Blanking.{SkipLent, SkipLeft, skip_conditions, SetsSkip}
 use Rattle.imgproc.specs.Refusals.{Conditions, first, ◌then◌, refused_if, answer_by}
 use Rattle.imgproc_c.specs.Exports.{Tells}
 
@@ -61,3 +62,20 @@ pub record BuildsNumber
     : Type 0 where
   pub builds : BuildsBy (number_conditions method lent) lent (built_from method lent) left
   pub tells : Tells (built_from method lent) held number held'
+
+-- the answer of a call that sets the skip byte of a tile
+abbrev pub skip_answer : SkipLent → Answer Bare
+skip_answer lent = answer_by (first (skip_conditions lent)) bare
+
+-- an export that sets it to v returns the number of that answer, and leaves both buffers as such a call leaves them
+pub record SetsSkipNumber (v : ℕ) (lent : SkipLent) (number : ℕ) (left : SkipLeft) : Type 0 where
+  pub answers : number ≡ answer_number (skip_answer lent)
+  pub sets : SetsSkip v lent (skip_answer lent) left
+
+-- the contract of the export of `blank`
+abbrev pub BlanksNumber : SkipLent → ℕ → SkipLeft → Type 0
+BlanksNumber = SetsSkipNumber 1
+
+-- the contract of the export of `clear`
+abbrev pub ClearsNumber : SkipLent → ℕ → SkipLeft → Type 0
+ClearsNumber = SetsSkipNumber 0

@@ -42,7 +42,7 @@ number_settings method s =
     (method_conditions method then grid_settings s.grid) then
     sauvola_settings s.sauvola
 
--- it checks the layouts; 5; those settings; the workspaces
+-- it checks the layouts; 5; those settings; the workspaces; the count buffer
 abbrev pub number_conditions : ℕ → ReadingLent → Conditions
 number_conditions method lent = reading_conditions_by (number_settings method lent.settings) lent
 

@@ -1,31 +1,74 @@
--- When an export that takes the grid's method as a number is refused: with n exactly when n is the number of the first
--- condition of its list that fits, and then every lent buffer is as it was. Assumes nothing.
-use Rattle.std.specs.Prelude.{ℕ, ◌≡◌}
-use Rattle.image.specs.Answers.{refused}
-use Rattle.image.specs.RefusedExactly.{Exactly}
+-- When an export that takes the grid's method as a number, or sets or clears a skip by hand, is refused: with n exactly
+-- when n is the number of the first condition of its list that fits, and then every lent buffer is as it was. Assumes
+-- nothing.
+use Rattle.std.specs.Prelude.{ℕ, ◌<◌, ◌≡◌, ◌↔◌, List}
+use Rattle.std.proofs.Common.{arith, sym, ap, ◌∙◌}
+use Rattle.image.specs.Answers.{Answer, accepted, refused, answer_number, Condition}
+use Rattle.image.specs.RefusedExactly.{FirstFits, Exactly, differ}
 use Rattle.imgproc.specs.declared.grid.TileCounts.{TileCounts}
 use Rattle.imgproc.specs.GridCalls.{BuildLent, BuildLeft, tiles_from}
 use Rattle.imgproc.specs.Reading.{ReadingLent, ReadingLeft, ReadingNumbers, numbers_from}
-use Rattle.imgproc.specs.RefusedExactly.{numbers, build_exactly, build_keeps, reading_exactly, reading_keeps}
-use Rattle.imgproc_c.specs.Grid.{number_conditions, built_from, BuildsNumber}
+use Rattle.imgproc.specs.Blanking.{SkipLent, SkipLeft, skip_conditions}
+use Rattle.imgproc.specs.RefusedExactly.{
+  numbers,
+  build_exactly,
+  build_keeps,
+  sets_exactly,
+  sets_keeps,
+  reading_exactly,
+  reading_keeps,
+}
+use Rattle.imgproc_c.specs.Grid.{number_conditions, built_from, BuildsNumber, skip_answer, SetsSkipNumber}
 use Rattle.imgproc_c.specs.Reading.{number_conditions as read_conditions, read_from, ReadsNumber}
 
 -- the build
 module _ {method : ℕ} {lent : BuildLent} {held held' : TileCounts} {number : ℕ} {left : BuildLeft}
     (export : BuildsNumber method lent held number left held') where
-  pub build_number_exactly : Exactly (numbers (number_conditions method lent)) (tiles_from lent) (built_from method lent)
+  pub build_number_exactly :
+      Exactly (numbers (number_conditions method lent)) (tiles_from lent) (built_from method lent)
   build_number_exactly = build_exactly export.builds
 
   pub build_number_keeps : {n : ℕ} → built_from method lent ≡ refused n
-      → (left.workspace ≡ lent.workspace) × ((left.thresholds ≡ lent.thresholds) × (left.skips ≡ lent.skips))
+      → (left.workspace ≡ lent.workspace)
+      × ((left.thresholds ≡ lent.thresholds)
+      × ((left.skips ≡ lent.skips) × (left.open_tiles ≡ lent.open_tiles)))
   build_number_keeps = build_keeps export.builds
+
+-- equal refusals have one number
+same : {A : Type 0} {m n : ℕ} → ◌≡◌ {A = Answer A} (refused m) (refused n) → m ≡ n
+same e = cc
+
+-- the number of an answer is n, above 0, exactly when n is that of the first condition that fits
+number_exactly : {A : Type 0} {cs : List (Condition ℕ)} {values : A} (answer : Answer A) → Exactly cs values answer
+    → {number : ℕ} → number ≡ answer_number answer
+    → (n : ℕ) → 0 < n → (number ≡ n) ↔ FirstFits cs n
+number_exactly (accepted v) x e n p = (
+  λ q. absurd (omega arith),
+  λ f. absurd (differ v ((x.refused_exactly n).1 f)),
+)
+number_exactly (refused m) x e n p = (
+  λ q. (x.refused_exactly n).0 (ap (λ (k : ℕ). refused k) (sym e ∙ q)),
+  λ f. let r : m ≡ n = same ((x.refused_exactly n).1 f) in e ∙ r,
+)
+
+-- the calls that set or clear a skip by hand: the number that is returned
+module _ {v : ℕ} {lent : SkipLent} {number : ℕ} {left : SkipLeft} (export : SetsSkipNumber v lent number left) where
+  pub skip_number_exactly : (n : ℕ) → 0 < n → (number ≡ n) ↔ FirstFits (numbers (skip_conditions lent)) n
+  skip_number_exactly = number_exactly (skip_answer lent) (sets_exactly export.sets) export.answers
+
+  pub skip_number_keeps : (n : ℕ) → 0 < n → number ≡ n
+      → (left.skips ≡ lent.skips) × (left.open_tiles ≡ lent.open_tiles)
+  skip_number_keeps n p q =
+      sets_keeps export.sets (((sets_exactly export.sets).refused_exactly n).1 ((skip_number_exactly n p).0 q))
 
 -- the reading
 module _ {method : ℕ} {lent : ReadingLent} {held held' : ReadingNumbers} {number : ℕ} {left : ReadingLeft}
     (export : ReadsNumber method lent held number left held') where
-  pub reading_number_exactly : Exactly (numbers (read_conditions method lent)) (numbers_from lent) (read_from method lent)
+  pub reading_number_exactly :
+      Exactly (numbers (read_conditions method lent)) (numbers_from lent) (read_from method lent)
   reading_number_exactly = reading_exactly export.reads
 
   pub reading_number_keeps : {n : ℕ} → read_from method lent ≡ refused n
-      → (left.dst ≡ lent.dst) × ((left.bytes ≡ lent.bytes) × (left.u64s ≡ lent.u64s))
+      → (left.dst ≡ lent.dst)
+      × ((left.bytes ≡ lent.bytes) × ((left.u64s ≡ lent.u64s) × (left.open_tiles ≡ lent.open_tiles)))
   reading_number_keeps = reading_keeps export.reads

@@ -3,8 +3,8 @@
 ghost use Rattle.std.specs.Prelude.{◌≡◌};
 
 #[unsafe(no_mangle)]
-pub extern "C" fn imgproc_abi_2() -> u32
-    ensures { result ≡ 2 }
+pub extern "C" fn imgproc_abi_3() -> u32
+    ensures { result ≡ 3 }
 {
-    2
+    3
 }

@@ -1,12 +1,12 @@
-// Exports the build of the tile grid, and the queries to it.
+// Exports the build of the tile grid, the queries to it, and the calls that set or clear a skip by hand.
 ghost use Rattle.std.specs.Prelude.{◌≡◌};
 ghost use Rattle.imgproc.specs.GridCalls.{threshold_asked, skip_asked, row_skip_asked};
 ghost use Rattle.imgproc_c.specs.Picture.{geometry};
 ghost use Rattle.imgproc_c.specs.Exports.{Tells, as_byte};
-ghost use Rattle.imgproc_c.specs.Grid.{method_of, settings, grid, BuildsNumber};
+ghost use Rattle.imgproc_c.specs.Grid.{method_of, settings, grid, BuildsNumber, BlanksNumber, ClearsNumber};
 
 use crate::answers::{built, told, told_byte};
-use image::Geometry;
+use image::{Geometry, answer_number};
 use imgproc::grid::{SauvolaFloats, TileThresholdConfig, TileThresholdGrid, TileThresholdMethod};
 
 // Gives the method that a number of C's stands for. Any number but 0 and 1 gets a range of 0, which the build refuses.
@@ -42,6 +42,7 @@ pub extern "C" fn imgproc_tile_grid_build(
     workspace: &mut [u64],
     thresholds: &mut [u8],
     skips: &mut [u8],
+    open_tiles: &mut [u16],
     tiles_x: &mut usize,
     tiles_y: &mut usize,
 ) -> u32
@@ -54,10 +55,16 @@ pub extern "C" fn imgproc_tile_grid_build(
           workspace = workspace.old;
           thresholds = thresholds.old;
           skips = skips.old;
+          open_tiles = open_tiles.old;
         })
         (record { tiles_x = tiles_x.old; tiles_y = tiles_y.old })
         result
-        (record { workspace = workspace.new; thresholds = thresholds.new; skips = skips.new })
+        (record {
+          workspace = workspace.new;
+          thresholds = thresholds.new;
+          skips = skips.new;
+          open_tiles = open_tiles.new;
+        })
         (record { tiles_x = tiles_x.new; tiles_y = tiles_y.new }) }
 {
     let geometry = Geometry {
@@ -73,7 +80,9 @@ pub extern "C" fn imgproc_tile_grid_build(
         contrast_floor,
         method: method_of(method, k, dynamic_range),
     };
-    let answer = TileThresholdGrid::build(src, geometry, config, workspace, thresholds, skips);
+    let answer = TileThresholdGrid::build(
+        src, geometry, config, workspace, thresholds, skips, open_tiles,
+    );
     built(answer, tiles_x, tiles_y)
 }
 
@@ -149,14 +158,14 @@ pub extern "C" fn imgproc_row_all_skip(
     tile_height: usize,
     tiles_x: usize,
     tiles_y: usize,
-    skips: &[u8],
+    open_tiles: &[u16],
     y: usize,
     value: &mut u8,
 ) -> u32
     ensures { Tells
         (as_byte (row_skip_asked
         (grid width height tile_width tile_height tiles_x tiles_y)
-        skips.now y))
+        open_tiles.now y))
         value.old
         result
         value.new }
@@ -169,5 +178,75 @@ pub extern "C" fn imgproc_row_all_skip(
         tiles_x,
         tiles_y,
     };
-    told_byte(grid.row_all_skip(skips, y), value)
+    told_byte(grid.row_all_skip(open_tiles, y), value)
+}
+
+#[unsafe(no_mangle)]
+pub extern "C" fn imgproc_blank_tile(
+    width: usize,
+    height: usize,
+    tile_width: usize,
+    tile_height: usize,
+    tiles_x: usize,
+    tiles_y: usize,
+    skips: &mut [u8],
+    open_tiles: &mut [u16],
+    tile_column: usize,
+    tile_row: usize,
+) -> u32
+    ensures { BlanksNumber
+        (record {
+          grid = grid width height tile_width tile_height tiles_x tiles_y;
+          skips = skips.old;
+          open_tiles = open_tiles.old;
+          column = tile_column;
+          row = tile_row;
+        })
+        result
+        (record { skips = skips.new; open_tiles = open_tiles.new }) }
+{
+    let grid = TileThresholdGrid {
+        width,
+        height,
+        tile_width,
+        tile_height,
+        tiles_x,
+        tiles_y,
+    };
+    answer_number(grid.blank(skips, open_tiles, tile_column, tile_row))
+}
+
+#[unsafe(no_mangle)]
+pub extern "C" fn imgproc_clear_tile(
+    width: usize,
+    height: usize,
+    tile_width: usize,
+    tile_height: usize,
+    tiles_x: usize,
+    tiles_y: usize,
+    skips: &mut [u8],
+    open_tiles: &mut [u16],
+    tile_column: usize,
+    tile_row: usize,
+) -> u32
+    ensures { ClearsNumber
+        (record {
+          grid = grid width height tile_width tile_height tiles_x tiles_y;
+          skips = skips.old;
+          open_tiles = open_tiles.old;
+          column = tile_column;
+          row = tile_row;
+        })
+        result
+        (record { skips = skips.new; open_tiles = open_tiles.new }) }
+{
+    let grid = TileThresholdGrid {
+        width,
+        height,
+        tile_width,
+        tile_height,
+        tiles_x,
+        tiles_y,
+    };
+    answer_number(grid.clear(skips, open_tiles, tile_column, tile_row))
 }

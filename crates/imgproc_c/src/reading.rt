@@ -41,6 +41,7 @@ pub extern "C" fn imgproc_reading(
     light_value: u8,
     bytes: &mut [u8],
     u64s: &mut [u64],
+    open_tiles: &mut [u16],
     dark: &mut u64,
     light: &mut u64,
     skipped: &mut u64,
@@ -60,6 +61,7 @@ pub extern "C" fn imgproc_reading(
               (sauvola_from radius k_milli sauvola_dynamic_range dark_value light_value);
           bytes = bytes.old;
           u64s = u64s.old;
+          open_tiles = open_tiles.old;
         })
         (record {
           dark = dark.old;
@@ -68,7 +70,7 @@ pub extern "C" fn imgproc_reading(
           comparisons = comparisons.old;
         })
         result
-        (record { dst = dst.new; bytes = bytes.new; u64s = u64s.new })
+        (record { dst = dst.new; bytes = bytes.new; u64s = u64s.new; open_tiles = open_tiles.new })
         (record {
           dark = dark.new;
           light = light.new;
@@ -109,6 +111,8 @@ pub extern "C" fn imgproc_reading(
             light_value,
         },
     };
-    let answer = imgproc::reading::reading(src, source, dst, target, config, bytes, u64s);
+    let answer = imgproc::reading::reading(
+        src, source, dst, target, config, bytes, u64s, open_tiles,
+    );
     read(answer, dark, light, skipped, comparisons)
 }

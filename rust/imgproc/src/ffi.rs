@@ -1,7 +1,7 @@
 //! Declares the archive's exports, in the order of include/imgproc.h, and holds the one place that lends them memory.
 
 extern "C" {
-    fn imgproc_abi_2() -> u32;
+    fn imgproc_abi_3() -> u32;
     pub fn imgproc_validate_layout(len: usize, width: usize, height: usize, stride: usize) -> u32;
     pub fn imgproc_get(
         data: *const u8, len: usize, width: usize, height: usize, stride: usize, x: usize, y: usize, value: *mut u8,
@@ -55,7 +55,8 @@ extern "C" {
         src: *const u8, src_len: usize, width: usize, height: usize, stride: usize, tile_width: usize,
         tile_height: usize, neighborhood_radius: usize, threshold_offset: i16, contrast_floor: u8, method: u32, k: f64,
         dynamic_range: f64, workspace: *mut u64, workspace_len: usize, thresholds: *mut u8, thresholds_len: usize,
-        skips: *mut u8, skips_len: usize, tiles_x: *mut usize, tiles_y: *mut usize,
+        skips: *mut u8, skips_len: usize, open_tiles: *mut u16, open_tiles_len: usize, tiles_x: *mut usize,
+        tiles_y: *mut usize,
     ) -> u32;
     pub fn imgproc_threshold_at(
         width: usize, height: usize, tile_width: usize, tile_height: usize, tiles_x: usize, tiles_y: usize,
@@ -67,7 +68,17 @@ extern "C" {
     ) -> u32;
     pub fn imgproc_row_all_skip(
         width: usize, height: usize, tile_width: usize, tile_height: usize, tiles_x: usize, tiles_y: usize,
-        skips: *const u8, len: usize, y: usize, value: *mut u8,
+        open_tiles: *const u16, len: usize, y: usize, value: *mut u8,
+    ) -> u32;
+    pub fn imgproc_blank_tile(
+        width: usize, height: usize, tile_width: usize, tile_height: usize, tiles_x: usize, tiles_y: usize,
+        skips: *mut u8, skips_len: usize, open_tiles: *mut u16, open_tiles_len: usize, tile_column: usize,
+        tile_row: usize,
+    ) -> u32;
+    pub fn imgproc_clear_tile(
+        width: usize, height: usize, tile_width: usize, tile_height: usize, tiles_x: usize, tiles_y: usize,
+        skips: *mut u8, skips_len: usize, open_tiles: *mut u16, open_tiles_len: usize, tile_column: usize,
+        tile_row: usize,
     ) -> u32;
     pub fn imgproc_reading(
         src: *const u8, src_len: usize, src_width: usize, src_height: usize, src_stride: usize, dst: *mut u8,
@@ -75,8 +86,8 @@ extern "C" {
         target_luma: u8, denominator_floor: u8, opening_kernel: usize, tile_width: usize, tile_height: usize,
         neighborhood_radius: usize, threshold_offset: i16, contrast_floor: u8, method: u32, k: f64, dynamic_range: f64,
         radius: usize, k_milli: u32, sauvola_dynamic_range: u32, dark_value: u8, light_value: u8, bytes: *mut u8,
-        bytes_len: usize, u64s: *mut u64, u64s_len: usize, dark: *mut u64, light: *mut u64, skipped: *mut u64,
-        comparisons: *mut u64,
+        bytes_len: usize, u64s: *mut u64, u64s_len: usize, open_tiles: *mut u16, open_tiles_len: usize, dark: *mut u64,
+        light: *mut u64, skipped: *mut u64, comparisons: *mut u64,
     ) -> u32;
     pub fn imgproc_root(x: f64) -> f64;
 }
@@ -85,7 +96,7 @@ extern "C" {
 /// archive of another. The optimiser and the linker keep the reference wherever they keep a call.
 #[inline(always)]
 pub fn refer_to_abi() {
-    std::hint::black_box(imgproc_abi_2 as unsafe extern "C" fn() -> u32);
+    std::hint::black_box(imgproc_abi_3 as unsafe extern "C" fn() -> u32);
 }
 
 /// Calls an export. `[data]` lends a slice as its pointer and length, and `[mut data]` one to write to. `<g>` stands

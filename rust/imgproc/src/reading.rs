@@ -1,6 +1,6 @@
 //! The reading: flattens and opens a picture, skips its low-contrast tiles, and judges every other pixel.
 
-use crate::grid::{self, tiles, TileThresholdConfig};
+use crate::grid::{self, tile_rows, tiles, Grid, TileThresholdConfig};
 use crate::illumination::BackgroundDivideConfig;
 use crate::refusal::opened;
 use crate::sauvola::{self, SauvolaConfig};
@@ -124,7 +124,7 @@ pub mod flat {
     #[allow(clippy::too_many_arguments)]
     pub fn reading(
         src: &[u8], s: Geometry, dst: &mut [u8], d: Geometry, config: &ReadingConfig, method: u32, k: f64,
-        dynamic_range: f64, bytes: &mut [u8], u64s: &mut [u64], counts: &mut ReadingCounts,
+        dynamic_range: f64, bytes: &mut [u8], u64s: &mut [u64], open_tiles: &mut [u16], counts: &mut ReadingCounts,
     ) -> u32 {
         let ReadingConfig { division, opening_kernel, grid, sauvola } = *config;
         call!(imgproc_reading(
@@ -134,16 +134,19 @@ pub mod flat {
             grid.tile_width, grid.tile_height, grid.neighborhood_radius, grid.threshold_offset, grid.contrast_floor,
             method, k, dynamic_range,
             sauvola.radius, sauvola.k_milli, sauvola.dynamic_range, sauvola.dark_value, sauvola.light_value,
-            [mut bytes], [mut u64s],
+            [mut bytes], [mut u64s], [mut open_tiles],
             &mut counts.dark, &mut counts.light, &mut counts.skipped, &mut counts.comparisons
         ))
     }
 }
 
 /// Judges every pixel and writes the rows of `dst`: `dark_value` for a dark one, `light_value` for a light or skipped
-/// one. The workspaces need [`bytes_len`] bytes and [`u64s_len`] u64s; a [`ReadingWorkspace`] owns such workspaces.
+/// one. Fills the first numbers of `open_tiles`, one a tile row, with the number of tiles that are not skipped. A
+/// reading makes its own skips: tiles that were blanked by hand do not enter it. The workspaces need [`bytes_len`]
+/// bytes and [`u64s_len`] u64s, `open_tiles` needs [`tile_rows`] numbers; a [`ReadingWorkspace`] owns such slices.
 ///
 /// ```
+/// use imgproc::grid::{row_all_skip, tile_rows, Grid};
 /// use imgproc::reading::{bytes_len, reading, u64s_len, ReadingConfig};
 /// use imgproc::Geometry;
 ///
@@ -157,9 +160,12 @@ pub mod flat {
 /// let mut marked = vec![0; geometry.area()];
 /// let mut bytes = vec![0; bytes_len(24, 30, &config.grid)];
 /// let mut u64s = vec![0; u64s_len(24, 30, &config.grid)];
-/// let counts = reading(&picture, geometry, &mut marked, geometry, &config, &mut bytes, &mut u64s)?;
+/// let mut open_tiles = vec![0; tile_rows(30, config.grid.tile_height)];
+/// let counts =
+///     reading(&picture, geometry, &mut marked, geometry, &config, &mut bytes, &mut u64s, &mut open_tiles)?;
 /// assert_eq!((counts.dark, counts.light, counts.skipped), (80, 640, 0));
 /// assert_eq!(marked[29 * 24 + 10], config.sauvola.dark_value);
+/// assert!(!row_all_skip(Grid::of(24, 30, &config.grid), &open_tiles, 29)?);
 /// # Ok::<(), imgproc::Refusal>(())
 /// ```
 ///
@@ -167,10 +173,11 @@ pub mod flat {
 ///
 /// Layout of the source, layout of the destination, 5 if they differ in width or height, then what
 /// [`ReadingConfig::check`] finds first (7 for the division, 6 for the opening's kernel, 7 for the grid, 7 for the
-/// threshold), then 8 if a workspace is too short.
+/// threshold), then 8 if a workspace is too short, then 10 if `open_tiles` is.
+#[allow(clippy::too_many_arguments)]
 pub fn reading(
     src: &[u8], src_geometry: Geometry, dst: &mut [u8], dst_geometry: Geometry, config: &ReadingConfig,
-    bytes: &mut [u8], u64s: &mut [u64],
+    bytes: &mut [u8], u64s: &mut [u64], open_tiles: &mut [u16],
 ) -> Result<ReadingCounts, Refusal> {
     let (method, k, dynamic_range) = config.grid.method.numbers();
     let mut counts = ReadingCounts::default();
@@ -185,12 +192,13 @@ pub fn reading(
         dynamic_range,
         bytes,
         u64s,
+        open_tiles,
         &mut counts,
     ))?;
     Ok(counts)
 }
 
-/// Settings, and workspaces long enough to read pictures of one size with them.
+/// Settings, workspaces long enough to read pictures of one size with them, and the counts of open tiles.
 ///
 /// ```
 /// use imgproc::reading::{ReadingConfig, ReadingWorkspace};
@@ -202,6 +210,7 @@ pub fn reading(
 /// let mut marked = vec![0; geometry.area()];
 /// let counts = workspace.reading(&picture, geometry, &mut marked, geometry)?;
 /// assert_eq!(counts.skipped, 720); // No contrast.
+/// assert_eq!(workspace.open_tiles(), [0, 0]);
 ///
 /// let vast = Geometry::packed(usize::MAX, usize::MAX);
 /// let refusal = ReadingWorkspace::new(vast, &ReadingConfig::default()).unwrap_err();
@@ -213,6 +222,8 @@ pub struct ReadingWorkspace {
     config: ReadingConfig,
     bytes: Vec<u8>,
     u64s: Vec<u64>,
+    open_tiles: Vec<u16>,
+    last: Option<Grid>,
 }
 
 impl ReadingWorkspace {
@@ -228,7 +239,9 @@ impl ReadingWorkspace {
         let Geometry { width, height, .. } = geometry;
         let bytes = vec![0; bytes_len(width, height, &config.grid)];
         let u64s = vec![0; u64s_len(width, height, &config.grid)];
-        Ok(Self { config: *config, bytes, u64s })
+        // Long enough for every height: a higher and narrower picture may fit the workspaces.
+        let open_tiles = vec![0; tile_rows(crate::MAX_SIDE, config.grid.tile_height)];
+        Ok(Self { config: *config, bytes, u64s, open_tiles, last: None })
     }
 
     /// Returns the settings.
@@ -242,22 +255,39 @@ impl ReadingWorkspace {
     /// # Errors
     ///
     /// As [`reading`]. The settings are known to be good, and 8 means that the picture is larger than the workspace is
-    /// made for.
+    /// made for. 10 never occurs.
     pub fn reading(
         &mut self, src: &[u8], src_geometry: Geometry, dst: &mut [u8], dst_geometry: Geometry,
     ) -> Result<ReadingCounts, Refusal> {
-        reading(src, src_geometry, dst, dst_geometry, &self.config, &mut self.bytes, &mut self.u64s)
+        let Self { config, bytes, u64s, open_tiles, last } = self;
+        let counts = reading(src, src_geometry, dst, dst_geometry, config, bytes, u64s, open_tiles)?;
+        *last = Some(Grid::of(src_geometry.width, src_geometry.height, &config.grid));
+        Ok(counts)
+    }
+
+    /// Returns the sizes of the grid of the picture last read, for [`grid::row_all_skip`]. `None` before the first
+    /// reading; a refused one changes nothing.
+    pub const fn grid(&self) -> Option<Grid> {
+        self.last
+    }
+
+    /// Returns the number of open tiles of each tile row of the picture last read. Empty before the first reading.
+    pub fn open_tiles(&self) -> &[u16] {
+        let rows = self.last.map_or(0, |grid| grid.tiles_y);
+        &self.open_tiles[..rows]
     }
 }
 
 /// Shows the lengths of the workspaces in place of their contents.
 impl fmt::Debug for ReadingWorkspace {
     fn fmt(&self, f: &mut fmt::Formatter<'_>) -> fmt::Result {
-        let Self { config, bytes, u64s } = self;
+        let Self { config, bytes, u64s, open_tiles, last } = self;
         f.debug_struct("ReadingWorkspace")
             .field("config", config)
             .field("bytes", &bytes.len())
             .field("u64s", &u64s.len())
+            .field("open_tiles", &open_tiles.len())
+            .field("last", last)
             .finish()
     }
 }

@@ -15,7 +15,7 @@ pub enum LumaError {
     BufferTooSmall,
     /// 4: a side is above [`crate::MAX_SIDE`].
     SideTooLarge,
-    /// 9: the pixel or row lies outside the picture.
+    /// 9: the pixel or row lies outside the picture, or the tile outside the grid.
     OutsidePicture,
 }
 
@@ -33,7 +33,7 @@ pub enum Refusal {
     InvalidConfiguration,
     /// 8: the workspace, or the slice to copy to, is too short.
     WorkspaceTooSmall,
-    /// 10: a buffer of thresholds or skips is too short.
+    /// 10: a buffer of thresholds, skips or counts of open tiles is too short.
     GridBufferTooSmall,
     /// A number that these calls do not know.
     Unknown(u32),
@@ -83,7 +83,7 @@ impl LumaError {
             Self::StrideTooSmall => "the stride is below the width",
             Self::BufferTooSmall => "the buffer does not hold the picture",
             Self::SideTooLarge => "a side of the picture is above the side limit",
-            Self::OutsidePicture => "the place lies outside the picture",
+            Self::OutsidePicture => "the place lies outside the picture or the grid",
         }
     }
 }

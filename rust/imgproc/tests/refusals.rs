@@ -58,8 +58,8 @@ fn method(k: f64, dynamic_range: f64) -> TileThresholdMethod {
 /// Reads a small picture with these settings and long workspaces.
 fn answer(config: &ReadingConfig) -> Result<(), Refusal> {
     let geometry = Geometry::packed(5, 4);
-    let (mut dst, mut bytes, mut u64s) = ([0; 20], [0; 400], [0; 400]);
-    reading(&[7; 20], geometry, &mut dst, geometry, config, &mut bytes, &mut u64s).map(|_| ())
+    let (mut dst, mut bytes, mut u64s, mut open_tiles) = ([0; 20], [0; 400], [0; 400], [0; 20]);
+    reading(&[7; 20], geometry, &mut dst, geometry, config, &mut bytes, &mut u64s, &mut open_tiles).map(|_| ())
 }
 
 #[test]
@@ -103,6 +103,37 @@ fn limits_are_accepted() {
 }
 
 #[test]
+fn a_reading_checks_the_counts_last() {
+    let geometry = Geometry::packed(5, 33);
+    let answer = |config: &ReadingConfig, missing: [usize; 3]| {
+        let mut dst = [3; 165];
+        let mut bytes = vec![4; bytes_len(5, 33, &config.grid) - missing[0]];
+        let mut u64s = vec![5; u64s_len(5, 33, &config.grid) - missing[1]];
+        let mut open_tiles = vec![6; 4];
+        let rows = grid::tile_rows(33, config.grid.tile_height) - missing[2];
+        let answer =
+            reading(&[7; 165], geometry, &mut dst, geometry, config, &mut bytes, &mut u64s, &mut open_tiles[..rows]);
+        let kept = dst == [3; 165]
+            && bytes.iter().all(|byte| *byte == 4)
+            && u64s.iter().all(|number| *number == 5)
+            && open_tiles == [6; 4];
+        assert_eq!(kept, answer.is_err());
+        assert!(kept || open_tiles == [0, 0, 0, 6]);
+        answer.map(|counts| counts.skipped)
+    };
+    let config = ReadingConfig::default();
+    assert_eq!(answer(&config, [0, 0, 0]), Ok(165));
+    for rows in 1..=3 {
+        assert_eq!(answer(&config, [0, 0, rows]), Err(Refusal::GridBufferTooSmall));
+        assert_eq!(answer(&config, [1, 0, rows]), Err(Refusal::WorkspaceTooSmall));
+        assert_eq!(answer(&config, [0, 1, rows]), Err(Refusal::WorkspaceTooSmall));
+        let mut config = config;
+        config.sauvola.radius = 0;
+        assert_eq!(answer(&config, [0, 0, rows]), Err(Refusal::InvalidConfiguration));
+    }
+}
+
+#[test]
 fn lengths_never_wrap() {
     let mut config = ReadingConfig::default();
     for tile in [1, 2, usize::MAX] {
@@ -117,4 +148,6 @@ fn lengths_never_wrap() {
         }
     }
     assert_eq!(grid::tiles(usize::MAX, usize::MAX, 1, 1), usize::MAX);
+    assert_eq!(grid::tile_rows(usize::MAX, 1), usize::MAX);
+    assert_eq!(grid::tile_rows(usize::MAX, 2), 1 << 63);
 }

@@ -1,5 +1,6 @@
 //! Tests the workspace that owns its slices: it refuses before it allocates, and reads as lent workspaces do.
 
+use imgproc::grid::{row_all_skip, tile_rows, Grid, TileThresholdConfig};
 use imgproc::reading::{bytes_len, reading, u64s_len, ReadingConfig, ReadingWorkspace};
 use imgproc::{Geometry, LumaError, Refusal, SettingError, MAX_SIDE};
 
@@ -37,12 +38,16 @@ fn it_reads_as_lent_workspaces_do() {
     let (mut lent, mut owned) = (vec![1; 41 * 33], vec![1; 41 * 33]);
     let mut bytes = vec![0; bytes_len(40, 33, &config.grid)];
     let mut u64s = vec![0; u64s_len(40, 33, &config.grid)];
-    let counts = reading(&picture, source, &mut lent, target, &config, &mut bytes, &mut u64s).unwrap();
+    let mut open_tiles = vec![7; tile_rows(33, config.grid.tile_height)];
+    let counts = reading(&picture, source, &mut lent, target, &config, &mut bytes, &mut u64s, &mut open_tiles).unwrap();
     let mut workspace = ReadingWorkspace::new(Geometry::packed(40, 33), &config).unwrap();
+    assert_eq!((workspace.grid(), workspace.open_tiles()), (None, &[][..]));
     // Reads twice: what the first reading leaves in the workspaces does not matter.
     for _ in 0..2 {
         assert_eq!(workspace.reading(&picture, source, &mut owned, target), Ok(counts));
         assert_eq!(lent, owned);
+        assert_eq!(workspace.grid(), Some(Grid::of(40, 33, &config.grid)));
+        assert_eq!(workspace.open_tiles(), open_tiles);
     }
     assert!(counts.dark > 0 && counts.light > 0);
     assert_eq!(workspace.config(), &config);
@@ -50,11 +55,50 @@ fn it_reads_as_lent_workspaces_do() {
 }
 
 #[test]
-fn a_larger_picture_is_refused() {
-    let mut workspace = ReadingWorkspace::new(Geometry::packed(8, 8), &ReadingConfig::default()).unwrap();
+fn a_larger_picture_is_refused_and_a_higher_one_read_if_it_fits() {
+    let config = ReadingConfig::default();
+    let mut workspace = ReadingWorkspace::new(Geometry::packed(8, 8), &config).unwrap();
     let larger = Geometry::packed(9, 8);
     let answer = workspace.reading(&[0; 72], larger, &mut [0; 72], larger);
     assert_eq!(answer, Err(Refusal::WorkspaceTooSmall));
+    assert_eq!((workspace.grid(), workspace.open_tiles()), (None, &[][..]));
+    // A higher one needs no more bytes if it is narrower. It has more tile rows.
+    let higher = Geometry::packed(3, 17);
+    let counts = workspace.reading(&[0; 51], higher, &mut [0; 51], higher).unwrap();
+    assert_eq!(counts.skipped, 51);
+    assert_eq!((workspace.grid(), workspace.open_tiles()), (Some(Grid::of(3, 17, &config.grid)), &[0, 0][..]));
+    // The highest, in the lowest tiles.
+    let config = ReadingConfig { grid: TileThresholdConfig { tile_height: 1, ..config.grid }, ..config };
+    let mut workspace = ReadingWorkspace::new(Geometry::packed(130, 130), &config).unwrap();
+    let highest = Geometry::packed(1, MAX_SIDE);
+    let answer = workspace.reading(&[0; MAX_SIDE], highest, &mut [0; MAX_SIDE], highest);
+    assert_eq!(answer.map(|counts| counts.skipped), Ok(4096));
+    assert_eq!(workspace.open_tiles(), [0; MAX_SIDE]);
+}
+
+#[test]
+fn the_open_tiles_are_those_of_the_picture_last_read() {
+    let config = ReadingConfig::default();
+    let mut workspace = ReadingWorkspace::new(Geometry::packed(48, 64), &config).unwrap();
+    let mut marked = vec![0; 48 * 64];
+    // Pictures of other sizes, the first with contrast in its first tile rows only.
+    let large = Geometry::packed(48, 64);
+    let mut picture = vec![200; large.area()];
+    picture[..4 * 48].iter_mut().step_by(3).for_each(|pixel| *pixel = 40);
+    let small = Geometry::packed(17, 20);
+    for (picture, geometry, rows) in [(&picture[..], large, 4), (&[9; 340], small, 2), (&picture[..], large, 4)] {
+        workspace.reading(picture, geometry, &mut marked, geometry).unwrap();
+        let (sizes, open_tiles) = (workspace.grid().unwrap(), workspace.open_tiles().to_vec());
+        assert_eq!((sizes.width, sizes.height, sizes.tiles_y), (geometry.width, geometry.height, rows));
+        assert_eq!(open_tiles.len(), rows);
+        for y in 0..geometry.height {
+            assert_eq!(row_all_skip(sizes, &open_tiles, y), Ok(open_tiles[y / config.grid.tile_height] == 0));
+        }
+        // A refused reading changes neither.
+        let refused = workspace.reading(&[], geometry, &mut marked, geometry);
+        assert_eq!(refused, Err(Refusal::Image(LumaError::BufferTooSmall)));
+        assert_eq!((workspace.grid(), workspace.open_tiles()), (Some(sizes), &open_tiles[..]));
+    }
 }
 
 #[test]
