@@ -2,7 +2,6 @@
 // or else noise. rust/vectors/src/list.rs makes the same noise.
 use crate::numbers::narrow;
 use std::alloc::{AllocError, Global};
-use std::iter;
 use std::marker::PhantomData;
 
 // An element of a lent slice, which a state of the noise can give.
@@ -16,10 +15,45 @@ impl Element for u8 {
     }
 }
 
+impl Element for u16 {
+    fn from_state(state: u32) -> u16 {
+        (state >> 16) as u16
+    }
+}
+
 // Both halves of a u64 are the state.
 impl Element for u64 {
     fn from_state(state: u32) -> u64 {
         u64::from(state) * 4294967297
+    }
+}
+
+// An element that a list can have as a number.
+pub(crate) trait Listed: Element {
+    // Gives the element of a number, and 0 where it has none.
+    fn from_number(number: usize) -> Self;
+
+    // Tests whether the element is that of a number.
+    fn is_number(&self, number: usize) -> bool;
+}
+
+impl Listed for u8 {
+    fn from_number(number: usize) -> u8 {
+        narrow(number)
+    }
+
+    fn is_number(&self, number: usize) -> bool {
+        usize::from(*self) == number
+    }
+}
+
+impl Listed for u16 {
+    fn from_number(number: usize) -> u16 {
+        narrow(number)
+    }
+
+    fn is_number(&self, number: usize) -> bool {
+        usize::from(*self) == number
     }
 }
 
@@ -64,7 +98,7 @@ pub(crate) fn is_noise<T: Element>(data: &[T], seed: u32) -> bool {
         .all(|(held, made)| *held == made)
 }
 
-// What a slice of bytes holds: the numbers that a section of the list gives, or the noise of a seed.
+// What a slice holds: the numbers that a section of the list gives, or the noise of a seed.
 #[derive(Clone, Copy)]
 pub(crate) enum Content<'a> {
     Listed(&'a [usize]),
@@ -82,31 +116,40 @@ impl<'a> Content<'a> {
     }
 
     // Makes a slice of a length. It has zeros where its section ends before it.
-    pub(crate) fn make(self, alloc: Global, length: usize) -> Result<Vec<u8>, AllocError> {
+    pub(crate) fn make<T: Listed>(
+        self,
+        alloc: Global,
+        length: usize,
+    ) -> Result<Vec<T>, AllocError> {
         match self {
             Content::Noise(seed) => make_noise(alloc, seed, length),
-            Content::Listed(numbers) => numbers
-                .iter()
-                .map(|number| narrow(*number))
-                .chain(iter::repeat(0))
-                .take(length)
-                .collect(alloc),
+            Content::Listed(numbers) => {
+                let mut made = Vec::new(alloc);
+                for index in 0..length {
+                    let number = numbers.get(index).copied().unwrap_or_default();
+                    made.push(T::from_number(number))?;
+                }
+                Ok(made)
+            }
         }
     }
 
     // Tests whether a slice holds this. A listed one has to be as long.
-    pub(crate) fn is(self, data: &[u8]) -> bool {
+    pub(crate) fn is<T: Listed>(self, data: &[T]) -> bool {
         match self {
             Content::Noise(seed) => is_noise(data, seed),
-            Content::Listed(numbers) => data
-                .iter()
-                .map(|byte| usize::from(*byte))
-                .eq(numbers.iter().copied()),
+            Content::Listed(numbers) => {
+                data.len() == numbers.len()
+                    && data
+                        .iter()
+                        .zip(numbers)
+                        .all(|(held, number)| held.is_number(*number))
+            }
         }
     }
 }
 
-// What a call is lent: a source, two destinations, a byte workspace and a u64 workspace.
+// What a call is lent: a source, two destinations, a byte workspace, a u64 workspace and a count buffer.
 #[derive(Drop)]
 pub(crate) struct Lent {
     pub(crate) from: Vec<u8>,
@@ -114,4 +157,5 @@ pub(crate) struct Lent {
     pub(crate) other: Vec<u8>,
     pub(crate) bytes: Vec<u8>,
     pub(crate) u64s: Vec<u64>,
+    pub(crate) u16s: Vec<u16>,
 }

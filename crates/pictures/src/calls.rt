@@ -40,6 +40,7 @@ pub(crate) fn call(f: Numbers, lent: &mut Lent) -> Answer {
         other,
         bytes,
         u64s,
+        u16s,
     } = lent;
     let g = settings::source(f);
     let h = settings::destination(f);
@@ -62,11 +63,11 @@ pub(crate) fn call(f: Numbers, lent: &mut Lent) -> Answer {
         12 => told(morphology::grayscale_close_into(from, g, to, h, k, bytes)),
         13 => told(illumination::background_divide_into(from, g, to, h, s, bytes)),
         14 => told(threshold::sauvola_into(from, g, to, h, settings::sauvola(f), u64s)),
-        15 => told(TileThresholdGrid::build(from, g, settings::grid(f), u64s, to, other)),
+        15 => told(TileThresholdGrid::build(from, g, settings::grid(f), u64s, to, other, u16s)),
         16 => told(grid.threshold_at(from, k, y)),
         17 => told(grid.is_skip(from, k, y)),
-        18 => told(grid.row_all_skip(from, y)),
-        19 => told(reading::reading(from, g, to, h, settings::reading(f), bytes, u64s)),
+        18 => told(grid.row_all_skip(u16s, y)),
+        19 => told(reading::reading(from, g, to, h, settings::reading(f), bytes, u64s, u16s)),
         // A line that does not fit has the length 0 in a list.
         20 => [
             line,
@@ -75,6 +76,8 @@ pub(crate) fn call(f: Numbers, lent: &mut Lent) -> Answer {
             0,
             0,
         ],
+        21 => told(grid.blank(to, u16s, k, y)),
+        22 => told(grid.clear(to, u16s, k, y)),
         _ => [999, 0, 0, 0, 0],
     }
 }

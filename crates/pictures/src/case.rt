@@ -1,38 +1,41 @@
 // Runs a case: makes what is lent, makes the call, and compares the answer and what is left. A line's sections are the
-// call and its numbers; the lengths of the slices from, to, other, bytes and u64s; the answer; then the bytes of from
-// before the call, of to before it, of to after it and of other after it. A section behind the line's end has no
-// numbers. A slice with no bytes listed before holds noise. No call writes `from`. A slice that is not listed after a
-// call has to be as before if the call was refused, and may else hold anything.
-use crate::buffers::{Content, Lent};
+// call and its numbers; the lengths of the slices from, to, other, bytes, u64s and u16s; the answer; then the bytes of
+// from before the call, of to before it, of to after it and of other after it, and the numbers of u16s before it and
+// after it. A section behind the line's end has no numbers, and a length that is not there is 0. A slice with nothing
+// listed before holds noise. No call writes `from`. A slice that is not listed after a call has to be as before if the
+// call was refused, and may else hold anything.
+use crate::buffers::{Content, Lent, Listed};
 use crate::numbers::Unread;
 use crate::reply::Answer;
 use crate::settings::Numbers;
 use crate::{buffers, calls, numbers};
 use std::alloc::{AllocError, Global};
 
-// The most that the slices from, to, other, bytes and u64s are long.
-const LONGEST: [usize; 5] = [8192, 8192, 256, 40960, 18432];
+// The most that the slices from, to, other, bytes, u64s and u16s are long.
+const LONGEST: [usize; 6] = [8192, 8192, 256, 40960, 18432, 8192];
 
-// The most bytes that a line lists for all of them.
+// The most numbers that a line lists for all of them.
 const LISTED: usize = 4096;
 
-// A case has the sections of its line, and the seeds of the noise of the five slices.
+// A case has the sections of its line, and the seeds of the noise of the six slices.
 #[derive(Drop)]
 struct Case {
     call: Numbers,
-    lengths: [usize; 5],
+    lengths: [usize; 6],
     answer: Answer,
     from: Vec<usize>,
     before: Vec<usize>,
     after: Vec<usize>,
     other: Vec<usize>,
-    seeds: [u32; 5],
+    counts_before: Vec<usize>,
+    counts_after: Vec<usize>,
+    seeds: [u32; 6],
 }
 
 impl Case {
     // Reads a line. The seed is that of the first slice.
     fn read(alloc: Global, line: &[u8], seed: u32) -> Result<Case, Unread> {
-        let mut sections = line.splitn(8, |byte| *byte == b';');
+        let mut sections = line.splitn(10, |byte| *byte == b';');
         let mut section = || match sections.next() {
             Some(section) => section,
             None => &[],
@@ -45,7 +48,9 @@ impl Case {
             before: numbers::numbers(alloc, section())?,
             after: numbers::numbers(alloc, section())?,
             other: numbers::numbers(alloc, section())?,
-            seeds: [0, 1, 2, 3, 4].map(|slice| seed.wrapping_add(slice)),
+            counts_before: numbers::numbers(alloc, section())?,
+            counts_after: numbers::numbers(alloc, section())?,
+            seeds: [0, 1, 2, 3, 4, 5].map(|slice| seed.wrapping_add(slice)),
         };
         if section().is_empty() && case.fits() {
             Ok(case)
@@ -56,7 +61,14 @@ impl Case {
 
     // Tests whether a case keeps to the lengths that are allowed.
     fn fits(&self) -> bool {
-        let lists = [&self.from, &self.before, &self.after, &self.other];
+        let lists = [
+            &self.from,
+            &self.before,
+            &self.after,
+            &self.other,
+            &self.counts_before,
+            &self.counts_after,
+        ];
         let room = lists
             .iter()
             .try_fold(LISTED, |room, list| room.checked_sub(list.len()));
@@ -66,7 +78,7 @@ impl Case {
 
     // Makes what is lent.
     fn lent(&self, alloc: Global) -> Result<Lent, AllocError> {
-        let [from, to, other, bytes, u64s] = self.lengths;
+        let [from, to, other, bytes, u64s, u16s] = self.lengths;
         let seeds = self.seeds;
         Ok(Lent {
             from: Content::of(&self.from, seeds[0]).make(alloc, from)?,
@@ -74,6 +86,7 @@ impl Case {
             other: buffers::make_noise(alloc, seeds[2], other)?,
             bytes: buffers::make_noise(alloc, seeds[3], bytes)?,
             u64s: buffers::make_noise(alloc, seeds[4], u64s)?,
+            u16s: Content::of(&self.counts_before, seeds[5]).make(alloc, u16s)?,
         })
     }
 
@@ -81,9 +94,11 @@ impl Case {
     fn is_right(&self, lent: &Lent, refused: bool) -> bool {
         let seeds = self.seeds;
         let to = Content::of(&self.before, seeds[1]);
+        let u16s = Content::of(&self.counts_before, seeds[5]);
         Content::of(&self.from, seeds[0]).is(&lent.from)
             && is_left(&lent.to, to, &self.after, refused)
             && is_left(&lent.other, Content::Noise(seeds[2]), &self.other, refused)
+            && is_left(&lent.u16s, u16s, &self.counts_after, refused)
             && (!refused || buffers::is_noise(&lent.bytes, seeds[3]))
             && (!refused || buffers::is_noise(&lent.u64s, seeds[4]))
     }
@@ -98,7 +113,7 @@ impl Case {
 }
 
 // Tests whether a slice that a call may write holds what it should.
-fn is_left(data: &[u8], before: Content<'_>, after: &[usize], refused: bool) -> bool {
+fn is_left<T: Listed>(data: &[T], before: Content<'_>, after: &[usize], refused: bool) -> bool {
     if after.is_empty() {
         !refused || before.is(data)
     } else {

@@ -1,6 +1,7 @@
 //! Times the reading with the default settings against a chain of the Rust's calls, which keeps its own buffers.
 
 use crate::time::{row, Pair, Row};
+use imgproc::grid::tile_rows;
 use imgproc::reading::{bytes_len, reading, u64s_len, ReadingConfig};
 use imgproc::Geometry;
 use qr_lab_image::{Gray8View, Gray8ViewMut};
@@ -14,6 +15,7 @@ struct Lent {
     pair: Pair,
     bytes: Vec<u8>,
     u64s: Vec<u64>,
+    open_tiles: Vec<u16>,
     theirs: Theirs,
 }
 
@@ -33,6 +35,7 @@ fn lent(width: usize, height: usize) -> Lent {
         pair: Pair::new(width, height),
         bytes: vec![0; bytes_len(width, height, &grid)],
         u64s: vec![0; u64s_len(width, height, &grid)],
+        open_tiles: vec![0; tile_rows(height, grid.tile_height)],
         theirs: Theirs { flat: plane(), opened: plane(), ..Theirs::default() },
     }
 }
@@ -73,7 +76,7 @@ pub fn measure(rows: &mut Vec<Row>) {
         lent,
         |l| {
             let Pair { src, dst, g } = &mut l.pair;
-            reading(src, *g, dst, *g, &config, &mut l.bytes, &mut l.u64s).expect("accepted");
+            reading(src, *g, dst, *g, &config, &mut l.bytes, &mut l.u64s, &mut l.open_tiles).expect("accepted");
         },
         |l| chain(&mut l.pair, &mut l.theirs),
         |l| &l.pair.dst,

@@ -3,6 +3,7 @@
 use crate::corner::Corner;
 use crate::fault::Fault;
 use crate::guard::Guarded;
+use crate::mistake::Mistake;
 use crate::rng::Word;
 use std::borrow::Cow;
 
@@ -10,6 +11,7 @@ use std::borrow::Cow;
 pub enum Buffer {
     Bytes(Guarded<u8>),
     U64s(Guarded<u64>),
+    U16s(Guarded<u16>),
 }
 
 /// The numbers written through pointers, by name.
@@ -27,8 +29,29 @@ pub enum Left<'a> {
     /// The workspace of an accepted call, whose contents are unspecified.
     Open,
     Bytes(Cow<'a, [u8]>),
+    U16s(Cow<'a, [u16]>),
     /// The noise of this seed, as before the call.
     Noise(u64),
+}
+
+impl Left<'_> {
+    /// Tells whether a slice of bytes holds what is expected.
+    pub fn are_bytes(&self, got: &[u8]) -> bool {
+        match self {
+            Self::Bytes(want) => want.as_ref() == got,
+            Self::Noise(seed) => u8::noise(got.len(), *seed) == got,
+            Self::Open | Self::U16s(_) => false,
+        }
+    }
+
+    /// Does the same for u16s.
+    pub fn are_u16s(&self, got: &[u16]) -> bool {
+        match self {
+            Self::U16s(want) => want.as_ref() == got,
+            Self::Noise(seed) => u16::noise(got.len(), *seed) == got,
+            Self::Open | Self::Bytes(_) => false,
+        }
+    }
 }
 
 pub struct Expected<'a> {
@@ -57,6 +80,10 @@ pub trait Case: Clone {
     /// Checks that the safe call answers the same. It runs only if the rest agrees.
     fn safe(&self, expected: &Expected<'_>) -> Result<(), String>;
     fn places(&self) -> Places;
+    /// Changes the outcome of an accepted case to that of a mistake, and tells whether the two differ.
+    fn mistaken(&self, _mistake: Mistake, _outcome: &mut Outcome) -> bool {
+        false
+    }
     /// Returns the corners of the domain at which the case stands.
     fn corners(&self) -> Vec<Corner> {
         Vec::new()
@@ -71,7 +98,12 @@ pub trait Case: Clone {
 pub fn held<'a, C: Case>(case: &'a C, fault: &mut Option<Fault>) -> Result<Expected<'a>, String> {
     let expected = case.expected()?;
     let mut outcome = case.ours();
-    if fault.is_some_and(|kind| kind.plant(&mut outcome, &case.places())) {
+    let planted = match *fault {
+        None => false,
+        Some(Fault::Mistaken(mistake)) => outcome.number == 0 && case.mistaken(mistake, &mut outcome),
+        Some(kind) => kind.plant(&mut outcome, &case.places()),
+    };
+    if planted {
         *fault = None;
     }
     compare(&expected, &outcome)?;
@@ -92,6 +124,7 @@ fn compare(expected: &Expected<'_>, outcome: &Outcome) -> Result<(), String> {
         let whole = match buffer {
             Buffer::Bytes(bytes) => bytes.whole(),
             Buffer::U64s(u64s) => u64s.whole(),
+            Buffer::U16s(u16s) => u16s.whole(),
         };
         if !whole {
             return Err(format!("something was written before or past lent buffer {index}"));
@@ -99,9 +132,11 @@ fn compare(expected: &Expected<'_>, outcome: &Outcome) -> Result<(), String> {
         match (left, buffer) {
             (Left::Open, _) => {}
             (Left::Bytes(want), Buffer::Bytes(got)) => same(index, want, got)?,
+            (Left::U16s(want), Buffer::U16s(got)) => same(index, want, got)?,
             (Left::Noise(seed), Buffer::Bytes(got)) => same(index, &u8::noise(got.len(), *seed), got)?,
             (Left::Noise(seed), Buffer::U64s(got)) => same(index, &u64::noise(got.len(), *seed), got)?,
-            (Left::Bytes(_), Buffer::U64s(_)) => unreachable!("u64s are noise or open"),
+            (Left::Noise(seed), Buffer::U16s(got)) => same(index, &u16::noise(got.len(), *seed), got)?,
+            (Left::Bytes(_) | Left::U16s(_), _) => unreachable!("each buffer has an expectation of its kind"),
         }
     }
     Ok(())
@@ -134,12 +169,12 @@ pub fn smallest<C: Case>(case: &C, what: String) -> (C, String) {
     }
 }
 
-/// Lists bytes for a report, and cuts the list if they are many.
-pub fn listed(bytes: &[u8]) -> String {
+/// Lists bytes or numbers for a report, and cuts the list if they are many.
+pub fn listed<T: std::fmt::Debug>(slice: &[T]) -> String {
     const MOST: usize = 400;
-    if bytes.len() <= MOST {
-        format!("{} bytes {bytes:?}", bytes.len())
+    if slice.len() <= MOST {
+        format!("{} in all, {slice:?}", slice.len())
     } else {
-        format!("{} bytes, the first {:?}", bytes.len(), &bytes[..MOST])
+        format!("{} in all, the first {:?}", slice.len(), &slice[..MOST])
     }
 }

@@ -1,5 +1,6 @@
-//! The refusals that document 01 adds to the Rust's, 4, 8, 9 and 10, written from its words.
+//! The refusals that documents 01 and 02 add to the Rust's, 4, 8, 9 and 10, and a query's 7, written from their words.
 
+use imgproc::grid::Grid;
 use imgproc::Geometry;
 
 /// "a side above 4,096 is 4 (added)"
@@ -8,7 +9,7 @@ pub const SIDE_TOO_LARGE: u32 = 4;
 pub const WORKSPACE_TOO_SMALL: u32 = 8;
 /// "A pixel or row asked for by number is 9 (added)"
 pub const OUTSIDE: u32 = 9;
-/// "threshold or skip buffer under t bytes 10 (added)"
+/// "threshold or skip buffer under t bytes 10 (added)"; "a lent u16 buffer of at least tiles_y .. A short one is 10"
 pub const GRID_BUFFER_TOO_SMALL: u32 = 10;
 
 pub fn side_too_large(g: Geometry) -> bool {
@@ -34,4 +35,14 @@ pub fn layout(len: usize, g: Geometry) -> u32 {
 /// Tells whether the w * h bytes from `at` on do not all lie in a workspace of `room` bytes.
 pub fn plane_outside(room: usize, at: usize, g: Geometry) -> bool {
     (room as u128) < at as u128 + g.width as u128 * g.height as u128
+}
+
+/// "sides outside 1..4,096, zero tile sides or tile counts that are not the ceilings"
+pub fn bad_grid(grid: Grid) -> bool {
+    let Grid { width, height, tile_width, tile_height, tiles_x, tiles_y } = grid;
+    let sides = (1..=4096).contains(&width) && (1..=4096).contains(&height);
+    if !sides || tile_width == 0 || tile_height == 0 {
+        return true;
+    }
+    tiles_x != width.div_ceil(tile_width) || tiles_y != height.div_ceil(tile_height)
 }

@@ -1,6 +1,7 @@
 //! Plants faults in our side's answer. The self-test checks that the comparison reports each of them.
 
 use crate::case::{Buffer, Outcome, Places};
+use crate::mistake::Mistake;
 use Fault::*;
 
 #[derive(Clone, Copy, Debug, PartialEq, Eq)]
@@ -25,6 +26,8 @@ pub enum Fault {
     SpoiltBuffer(usize),
     /// One byte or number past the end of a lent buffer.
     Past(usize),
+    /// What a mistake in the open tiles would leave or answer; the case works it out.
+    Mistaken(Mistake),
 }
 
 /// Faults of a call that answers a number and is lent nothing.
@@ -46,9 +49,14 @@ const WRITING: &[Fault] = &[
     Past(2),
     SpoiltBuffer(3),
     Past(3),
+    SpoiltBuffer(4),
+    Past(4),
 ];
+/// Faults of a call that writes both of its lent buffers.
+pub const SKIPPING: &[Fault] =
+    &[Byte, Beside, Refusal, Accepted, Refused, SpoiltBuffer(0), Past(0), SpoiltBuffer(1), Past(1)];
 
-/// Returns the faults of a call that reads its first lent buffer and writes this many more, up to three.
+/// Returns the faults of a call that reads its first lent buffer and writes this many more, up to four.
 pub const fn writing(buffers: usize) -> &'static [Fault] {
     WRITING.split_at(7 + 2 * buffers).0
 }
@@ -82,6 +90,7 @@ impl Fault {
             Self::SpoiltCount(name) => !accepted && flip_count(outcome, name),
             Self::SpoiltBuffer(buffer) => !accepted && flip(outcome, Some((buffer, 0))),
             Self::Past(buffer) => flip_past(outcome, buffer),
+            Self::Mistaken(_) => false,
         }
     }
 }
@@ -93,6 +102,7 @@ fn flip(outcome: &mut Outcome, place: Option<(usize, usize)>) -> bool {
     match outcome.lent.get_mut(buffer) {
         Some(Buffer::Bytes(bytes)) if at < bytes.len() => bytes[at] ^= 1,
         Some(Buffer::U64s(u64s)) if at < u64s.len() => u64s[at] ^= 1,
+        Some(Buffer::U16s(u16s)) if at < u16s.len() => u16s[at] ^= 1,
         _ => return false,
     }
     true
@@ -102,6 +112,7 @@ fn flip_past(outcome: &mut Outcome, buffer: usize) -> bool {
     match outcome.lent.get_mut(buffer) {
         Some(Buffer::Bytes(bytes)) => *bytes.past() ^= 1,
         Some(Buffer::U64s(u64s)) => *u64s.past() ^= 1,
+        Some(Buffer::U16s(u16s)) => *u16s.past() ^= 1,
         None => return false,
     }
     true

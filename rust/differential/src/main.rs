@@ -10,6 +10,8 @@ mod guard;
 mod laws;
 mod layouts;
 mod levels;
+mod mistake;
+mod open;
 mod patterns;
 mod plain;
 mod rng;
@@ -203,7 +205,7 @@ fn self_test() -> Result<(), String> {
     let mut seen = 0;
     for subject in subjects() {
         for fault in subject.faults() {
-            let mut run = Run { fault: Some(fault), ..Run::default() };
+            let mut run = Run { fault: Some(fault), planted_in: Some(subject.name), ..Run::default() };
             let mut rng = Rng::new(SEED);
             let mut reported = false;
             for _ in 0..20_000 {

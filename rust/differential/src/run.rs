@@ -79,12 +79,17 @@ pub struct Run {
     pub numbers: BTreeSet<(&'static str, &'static str)>,
     /// The fault to plant at the first case that it fits.
     pub fault: Option<Fault>,
+    /// The subject to which a fault is kept, since a list of calls has cases of several.
+    pub planted_in: Option<&'static str>,
 }
 
 impl Run {
     pub fn case<C: Case>(&mut self, case: &C) -> Checked {
-        let pending = self.fault.is_some();
-        match held(case, &mut self.fault) {
+        let mut none = None;
+        let planted_here = self.planted_in.unwrap_or(case.name()) == case.name();
+        let fault = if planted_here { &mut self.fault } else { &mut none };
+        let pending = fault.is_some();
+        match held(case, fault) {
             Ok(expected) => {
                 self.count(case, &expected);
                 Ok(())

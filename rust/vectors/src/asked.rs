@@ -1,8 +1,10 @@
-//! Gives the answer of an accepted call, by the call's number. For the calls on pictures and for queries a plain
-//! computation here gives it, for the others the published Rust. The Rust does not count comparisons: walk.rs does.
+//! Gives the answer of an accepted call, by the call's number. For the calls on pictures, for queries, and for tiles
+//! that are skipped by hand a plain computation here gives it, for the others the published Rust. The Rust counts
+//! neither comparisons nor open tiles: walk.rs and open.rs do.
 
 use crate::chain::{self, Settings};
-use crate::list::Answer;
+use crate::list::{Answer, Written};
+use crate::open;
 use crate::picture::{Destination, Picture};
 use crate::walk::comparisons;
 use qr_lab_imgproc::illumination::{background_divide_into, BackgroundDivideConfig, IlluminationWorkspace};
@@ -34,6 +36,8 @@ pub const IS_SKIP: u64 = 17;
 pub const ROW_ALL_SKIP: u64 = 18;
 pub const READING: u64 = 19;
 pub const PROGRAM: u64 = 20;
+pub const BLANK: u64 = 21;
+pub const CLEAR: u64 = 22;
 
 fn division(s: &[u64]) -> BackgroundDivideConfig {
     BackgroundDivideConfig {
@@ -74,27 +78,29 @@ fn sauvola(s: &[u64]) -> SauvolaConfig {
 }
 
 /// Reads a reading's settings: element, target and floor, the opening's kernel, the grid's eight, Sauvola's five.
-fn reading(s: &[u64]) -> Settings {
+pub fn reading(s: &[u64]) -> Settings {
     Settings { division: division(s), opening_kernel: s[3] as usize, grid: grid(&s[4..]), sauvola: sauvola(&s[12..]) }
 }
 
-pub fn answer(n: &[u64], from: &[u8], to: Vec<u8>, other: Vec<u8>) -> Answer {
+pub fn answer(n: &[u64], from: &[u8], held: Written) -> Answer {
     match n[0] {
-        LAYOUT..=UNPACK => plain(n, from, to),
-        BUILD => built(n, from, to, other),
-        THRESHOLD_AT..=ROW_ALL_SKIP => Answer { values: vec![query(n, from)], to, other },
-        _ => operator(n, from, to),
+        LAYOUT..=UNPACK => plain(n, from, held),
+        BUILD => built(n, from, held),
+        THRESHOLD_AT | IS_SKIP => Answer { values: vec![query(n, from)], left: held },
+        ROW_ALL_SKIP => Answer { values: vec![row_query(n, &held.open_tiles)], left: held },
+        BLANK | CLEAR => skipped(n, held),
+        _ => operator(n, from, held),
     }
 }
 
 /// Answers a call on a picture: pixel (x, y) is the byte at y * stride + x, and a plane is the rows one after another.
-fn plain(n: &[u64], from: &[u8], mut to: Vec<u8>) -> Answer {
+fn plain(n: &[u64], from: &[u8], mut left: Written) -> Answer {
     let [width, height, stride, first, second] = [1, 2, 3, 4, 5].map(|i| n.get(i).map_or(0, |&number| number as usize));
     // With one row the stride does not matter, and may be larger than any memory.
     let stride = if height == 1 { 0 } else { stride };
     let (pixel, row) = (|| second * stride + first, || first * stride..first * stride + width);
     let rows = (0..height).map(|y| (y * width + first, y * stride));
-    let mut values = vec![];
+    let (mut values, to) = (vec![], &mut left.to);
     match n[0] {
         GET => values.push(u64::from(from[pixel()])),
         SET => to[pixel()] = n[6] as u8,
@@ -107,39 +113,59 @@ fn plain(n: &[u64], from: &[u8], mut to: Vec<u8>) -> Answer {
     if n[0] == ROW || n[0] == ROW_MUT {
         values.push(width as u64);
     }
-    Answer { values, to, other: vec![] }
+    Answer { values, left }
 }
 
-/// Answers a query: a tile's byte, whether the tile is skipped, or whether its whole row is. Every byte but 0 means
-/// skipped.
+/// Answers a query for a pixel: its tile's byte, or whether the tile is skipped. Every byte but 0 means skipped.
 fn query(n: &[u64], buffer: &[u8]) -> u64 {
     let [tile_width, tile_height, tiles_x, x, y] = [3, 4, 5, 7, 8].map(|i| n[i] as usize);
-    let row = y / tile_height * tiles_x;
-    match n[0] {
-        THRESHOLD_AT => u64::from(buffer[row + x / tile_width]),
-        IS_SKIP => u64::from(buffer[row + x / tile_width] != 0),
-        _ => u64::from(buffer[row..row + tiles_x].iter().all(|&byte| byte != 0)),
-    }
+    let byte = buffer[y / tile_height * tiles_x + x / tile_width];
+    u64::from(if n[0] == THRESHOLD_AT { byte } else { u8::from(byte != 0) })
+}
+
+/// Answers a query for a pixel row: whether the stored number of its tile row is 0.
+fn row_query(n: &[u64], open_tiles: &[u16]) -> u64 {
+    let [tile_height, y] = [4, 8].map(|i| n[i] as usize);
+    u64::from(open_tiles[y / tile_height] == 0)
+}
+
+/// Sets the byte of a tile, and counts the open tiles of its tile row by every byte of it.
+fn skipped(n: &[u64], mut left: Written) -> Answer {
+    let [tiles_x, column, row] = [5, 7, 8].map(|i| n[i] as usize);
+    let tiles = &mut left.to[row * tiles_x..][..tiles_x];
+    tiles[column] = u8::from(n[0] == BLANK);
+    let skips: Vec<bool> = tiles.iter().map(|&byte| byte != 0).collect();
+    left.open_tiles[row] = open::tiles(&skips, tiles_x)[0];
+    Answer { values: vec![], left }
 }
 
 fn picture(n: &[u64], bytes: &[u8]) -> Picture {
     Picture::lent(n[1] as usize, n[2] as usize, n[3] as usize, bytes.to_vec())
 }
 
-fn built(n: &[u64], from: &[u8], mut to: Vec<u8>, mut other: Vec<u8>) -> Answer {
+fn built(n: &[u64], from: &[u8], mut left: Written) -> Answer {
     let grid = TileThresholdGrid::build(picture(n, from).view(), grid(&n[4..])).expect("accepted");
-    to[..grid.thresholds().len()].copy_from_slice(grid.thresholds());
-    other.iter_mut().zip(grid.skip_mask()).for_each(|(byte, &skip)| *byte = u8::from(skip));
-    Answer { values: vec![grid.tiles_x() as u64, grid.tiles_y() as u64], to, other }
+    left.to[..grid.thresholds().len()].copy_from_slice(grid.thresholds());
+    left.other.iter_mut().zip(grid.skip_mask()).for_each(|(byte, &skip)| *byte = u8::from(skip));
+    open::store(&open::tiles(grid.skip_mask(), grid.tiles_x()), &mut left.open_tiles);
+    Answer { values: vec![grid.tiles_x() as u64, grid.tiles_y() as u64], left }
 }
 
-fn operator(n: &[u64], from: &[u8], to: Vec<u8>) -> Answer {
+fn operator(n: &[u64], from: &[u8], mut left: Written) -> Answer {
     let source = picture(n, from);
+    let to = std::mem::take(&mut left.to);
     let mut destination = Destination::lent(n[4] as usize, n[5] as usize, n[6] as usize, to);
+    let values = values(n, &source, &mut destination, &mut left.open_tiles);
+    left.to = destination.bytes;
+    Answer { values, left }
+}
+
+/// Makes a call from a picture to a destination, and returns the numbers that it gives.
+fn values(n: &[u64], source: &Picture, destination: &mut Destination, open_tiles: &mut [u16]) -> Vec<u64> {
     let (width, height, kernel) = (source.width, source.height, n[7] as usize);
     let sweeps = comparisons(width, height, kernel);
     let mut morphology = MorphologyWorkspace::default();
-    let values = match n[0] {
+    let (count, made) = match n[0] {
         ERODE => (sweeps, grayscale_erode_into(source.view(), destination.view(), kernel, &mut morphology)),
         DILATE => (sweeps, grayscale_dilate_into(source.view(), destination.view(), kernel, &mut morphology)),
         OPEN => (2 * sweeps, grayscale_open_into(source.view(), destination.view(), kernel, &mut morphology)),
@@ -152,14 +178,14 @@ fn operator(n: &[u64], from: &[u8], to: Vec<u8>) -> Answer {
         SAUVOLA => {
             let workspace = &mut ThresholdWorkspace::default();
             sauvola_into(source.view(), destination.view(), &sauvola(&n[7..]), workspace).expect("accepted");
-            return Answer { values: vec![], to: destination.bytes, other: vec![] };
+            return vec![];
         }
         _ => {
-            let counts = chain::read(&source, &mut destination, &reading(&n[7..]));
-            let values = vec![counts.dark, counts.light, counts.skipped, counts.comparisons];
-            return Answer { values, to: destination.bytes, other: vec![] };
+            let counts = chain::read(source, destination, &reading(&n[7..]));
+            open::store(&counts.open_tiles, open_tiles);
+            return vec![counts.dark, counts.light, counts.skipped, counts.comparisons];
         }
     };
-    values.1.expect("accepted");
-    Answer { values: vec![values.0], to: destination.bytes, other: vec![] }
+    made.expect("accepted");
+    vec![count]
 }

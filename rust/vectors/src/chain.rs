@@ -2,7 +2,7 @@
 //! skips.
 
 use crate::picture::{Destination, Picture};
-use crate::walk;
+use crate::{open, walk};
 use qr_lab_imgproc::illumination::{background_divide_into, BackgroundDivideConfig, IlluminationWorkspace};
 use qr_lab_imgproc::morphology::{grayscale_open_into, MorphologyWorkspace};
 use qr_lab_imgproc::threshold::{
@@ -29,13 +29,13 @@ impl Default for Settings {
     }
 }
 
-/// The four counts of a reading.
-#[derive(Clone, Copy, Debug, PartialEq)]
+/// The four counts of a reading, and the open tiles of each tile row.
 pub struct Counts {
     pub dark: u64,
     pub light: u64,
     pub skipped: u64,
     pub comparisons: u64,
+    pub open_tiles: Vec<u16>,
 }
 
 /// Returns the lengths of the two workspaces: 9wh + 2t bytes and 2(w + 1)(h + 1) + 5t u64s, t the number of tiles.
@@ -51,13 +51,29 @@ fn made(width: usize, height: usize, call: impl FnOnce(&mut Destination)) -> Pic
     Picture::packed(width, height, &destination.bytes)
 }
 
+/// Returns the grid of a picture.
+fn built(picture: &Picture, settings: &Settings) -> TileThresholdGrid {
+    TileThresholdGrid::build(picture.view(), settings.grid).expect("accepted")
+}
+
+/// Returns the open tiles of each tile row of a picture that is neither flattened nor opened.
+pub fn open_tiles(picture: &Picture, settings: &Settings) -> Vec<u16> {
+    let grid = built(picture, settings);
+    open::tiles(grid.skip_mask(), grid.tiles_x())
+}
+
+/// Divides a picture by its background.
+pub fn flattened(picture: &Picture, settings: &Settings) -> Picture {
+    made(picture.width, picture.height, |to| {
+        background_divide_into(picture.view(), to.view(), &settings.division, &mut IlluminationWorkspace::default())
+            .expect("accepted")
+    })
+}
+
 /// Judges each pixel dark, light or skipped, writes the destination, and counts the three.
 pub fn read(picture: &Picture, destination: &mut Destination, settings: &Settings) -> Counts {
     let (width, height) = (picture.width, picture.height);
-    let flattened = made(width, height, |to| {
-        background_divide_into(picture.view(), to.view(), &settings.division, &mut IlluminationWorkspace::default())
-            .expect("accepted")
-    });
+    let flattened = flattened(picture, settings);
     let opened = made(width, height, |to| {
         grayscale_open_into(flattened.view(), to.view(), settings.opening_kernel, &mut MorphologyWorkspace::default())
             .expect("accepted")
@@ -67,10 +83,11 @@ pub fn read(picture: &Picture, destination: &mut Destination, settings: &Setting
     let judged = made(width, height, |to| {
         sauvola_into(opened.view(), to.view(), &apart, &mut ThresholdWorkspace::default()).expect("accepted")
     });
-    let grid = TileThresholdGrid::build(opened.view(), settings.grid).expect("accepted");
+    let grid = built(&opened, settings);
     let closing = 2 * walk::comparisons(width, height, settings.division.structuring_element);
     let comparisons = closing + 2 * walk::comparisons(width, height, settings.opening_kernel);
-    let mut counts = Counts { dark: 0, light: 0, skipped: 0, comparisons };
+    let open_tiles = open::tiles(grid.skip_mask(), grid.tiles_x());
+    let mut counts = Counts { dark: 0, light: 0, skipped: 0, comparisons, open_tiles };
     for (i, &verdict) in judged.bytes.iter().enumerate() {
         let (x, y) = (i % width, i / width);
         let (count, value) = match (grid.is_skip(x, y), verdict) {

@@ -1,5 +1,5 @@
 //! Writes the conditions under which a call is refused: each alone, each pair of them, and each limit. The numbers are
-//! document 01's, and the earlier condition of a pair counts. No program computes them.
+//! documents 01's and 02's, and the earlier condition of a pair counts. No program computes them.
 
 use crate::list::{Line, List, FROM, TO};
 

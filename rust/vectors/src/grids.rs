@@ -2,8 +2,9 @@
 
 use crate::asked::{BUILD, IS_SKIP, ROW_ALL_SKIP, THRESHOLD_AT};
 use crate::list::{Answer, Line, List};
+use crate::open;
 use crate::picture::{noise, Picture};
-use crate::stored::{EXACT, RUST};
+use crate::stored::{EXACT, OPEN_TILES, RUST};
 use qr_lab_imgproc::threshold::{TileThresholdConfig, TileThresholdGrid};
 
 /// The settings of a grid: tile sides, radius, contrast floor, method, and k, range and offset as bit patterns.
@@ -23,15 +24,16 @@ fn with_offset(mut tiles: Tiles, offset: i16) -> Tiles {
     tiles
 }
 
-/// Writes a build. The buffers have `tail` bytes more than there are tiles.
+/// Writes a build. The buffers have `tail` places more than there are tiles, or tile rows.
 fn build(l: &mut List, picture: &Picture, tail: u64, tiles: Tiles) -> Answer {
     let [width, height, stride] = [picture.width, picture.height, picture.stride].map(|side| side as u64);
-    let count = width.div_ceil(tiles[0]) * height.div_ceil(tiles[1]);
+    let rows = height.div_ceil(tiles[1]);
+    let count = width.div_ceil(tiles[0]) * rows;
     l.accepted(&Line {
         numbers: [&[BUILD, width, height, stride], &tiles[..]].concat(),
-        lengths: [picture.bytes.len() as u64, count + tail, count + tail, 0, 5 * count],
+        lengths: [picture.bytes.len() as u64, count + tail, count + tail, 0, 5 * count, rows + tail],
         from: picture.bytes.clone(),
-        before: vec![],
+        ..Line::default()
     })
 }
 
@@ -55,6 +57,24 @@ fn midranges(l: &mut List, page: &Picture) {
     for floor in [12, 11, 0, 255] {
         build(l, &steps, 1, [2, 2, 0, floor, 0, 0, 0, 0]);
     }
+}
+
+/// Writes builds in which the tile rows, and the tile columns, have different numbers of open tiles.
+fn unlike_rows(l: &mut List) {
+    l.comment("rows with different numbers of open tiles, more tiles in a row than rows and fewer; tiles of one pixel");
+    let slope = |x: usize, y: usize| if 2 * x < 3 * y { 40 * (x % 3) as u8 } else { 100 };
+    let page = |width: usize, height: usize| {
+        let pixels: Vec<u8> = (0..width * height).map(|i| slope(i % width, i / width)).collect();
+        Picture::new(width, height, width + 1, 0, &pixels)
+    };
+    for (width, height, tile_width, tile_height, open_tiles) in
+        [(9, 6, 2, 2, vec![1, 3, 4]), (5, 9, 2, 2, vec![1, 3, 2, 2, 2]), (8, 4, 4, 1, vec![0, 1, 1, 2])]
+    {
+        let left = build(l, &page(width, height), 2, tiles(tile_width, tile_height, 0)).left;
+        assert_eq!(left.open_tiles[..open_tiles.len()], open_tiles);
+    }
+    build(l, &page(6, 5), 1, tiles(1, 1, 1));
+    build(l, &page(7, 6), 1, with_sauvola(tiles(3, 1, 0), 0.2, 128.0));
 }
 
 fn sauvolas(l: &mut List, page: &Picture) {
@@ -96,17 +116,23 @@ pub const TILES: &str =
 
 pub fn grid() -> List {
     let head = "Tile grids, call 15: width height stride of the source,";
-    let mut list = List::new("grid", &[head, TILES, "tiles-x tiles-y; thresholds, then skips.", RUST, EXACT]);
+    let left = "tiles-x tiles-y; thresholds, then skips, then the open tiles of each tile row.";
+    let mut list = List::new("grid", &[head, TILES, left, RUST, OPEN_TILES, EXACT]);
     let l = &mut list;
     l.comment("document 01's pictures: 0 255 midrange 127, with offsets; Sauvola of 0 200");
     for (offset, threshold) in [(0, 127), (-200, 0), (200, 255)] {
-        assert_eq!(build(l, &Picture::row(&[0, 255]), 0, with_offset(tiles(16, 16, 1), offset)).to, [threshold]);
+        let left = build(l, &Picture::row(&[0, 255]), 0, with_offset(tiles(16, 16, 1), offset)).left;
+        assert_eq!((left.to, left.other, left.open_tiles), (vec![threshold], vec![0], vec![1]));
     }
     for (k, range, threshold) in [(0.2, 128.0, 96), (0.0, f64::from_bits(1), 0)] {
-        assert_eq!(build(l, &Picture::row(&[0, 200]), 0, with_sauvola(tiles(16, 16, 1), k, range)).to, [threshold]);
+        assert_eq!(
+            build(l, &Picture::row(&[0, 200]), 0, with_sauvola(tiles(16, 16, 1), k, range)).left.to,
+            [threshold]
+        );
     }
     let page = Picture::new(8, 7, 9, 2, &noise(56, 31));
     midranges(l, &page);
+    unlike_rows(l);
     sauvolas(l, &page);
     list
 }
@@ -116,7 +142,8 @@ pub const QUERY: &str = "width height tile-width tile-height tiles-x tiles-y x y
 /// Bytes for a skipped tile: any but 0 means skipped.
 const SKIPPED: [u8; 4] = [1, 2, 255, 128];
 
-/// Writes the queries for some places of one grid, whose buffers have `tail` bytes more than there are tiles.
+/// Writes the queries for some places of one grid, whose buffers have `tail` places more than there are tiles, or tile
+/// rows.
 fn ask(l: &mut List, picture: &Picture, tile_width: usize, tile_height: usize, contrast_floor: u8, tail: usize) {
     let config =
         TileThresholdConfig { tile_width, tile_height, contrast_floor, neighborhood_radius: 0, ..Default::default() };
@@ -124,16 +151,19 @@ fn ask(l: &mut List, picture: &Picture, tile_width: usize, tile_height: usize, c
     let byte = |(i, &skip): (usize, &bool)| if skip { SKIPPED[i % SKIPPED.len()] } else { 0 };
     let skips: Vec<u8> = grid.skip_mask().iter().enumerate().map(byte).chain(vec![0; tail]).collect();
     let thresholds = [grid.thresholds(), &vec![7; tail]].concat();
+    let open_tiles = [open::tiles(grid.skip_mask(), grid.tiles_x()), vec![0; tail]].concat();
     let (right, bottom) = (picture.width - 1, picture.height - 1);
     for (x, y) in [(0, 0), (right, 0), (0, bottom), (right, bottom), (right / 2, bottom / 2)] {
-        for (which, from, answer) in [
-            (THRESHOLD_AT, &thresholds, grid.threshold_at(x, y)),
-            (IS_SKIP, &skips, u8::from(grid.is_skip(x, y))),
-            (ROW_ALL_SKIP, &skips, u8::from(grid.row_all_skip(y))),
+        for (which, from, open_tiles, answer) in [
+            (THRESHOLD_AT, &thresholds[..], &[][..], grid.threshold_at(x, y)),
+            (IS_SKIP, &skips, &[], u8::from(grid.is_skip(x, y))),
+            (ROW_ALL_SKIP, &[], &open_tiles, u8::from(grid.row_all_skip(y))),
         ] {
             let sides = [picture.width, picture.height, tile_width, tile_height, grid.tiles_x(), grid.tiles_y(), x, y];
             let numbers = [&[which], &sides.map(|side| side as u64)[..]].concat();
-            let line = Line { numbers, lengths: [from.len() as u64, 0, 0, 0, 0], from: from.clone(), before: vec![] };
+            let lengths = [from.len(), 0, 0, 0, 0, open_tiles.len()].map(|length| length as u64);
+            let (from, open_tiles) = (from.to_vec(), open_tiles.to_vec());
+            let line = Line { numbers, lengths, from, open_tiles, ..Line::default() };
             assert_eq!(l.accepted(&line).values, [u64::from(answer)]);
         }
     }
@@ -142,7 +172,8 @@ fn ask(l: &mut List, picture: &Picture, tile_width: usize, tile_height: usize, c
 pub fn queries() -> List {
     let head = "Queries to a grid, calls 16 (threshold), 17 (skip) and 18 (a row's skips):";
     let answers = "A threshold, or 1 or 0. The answers are those of the published Rust, aukilabs/qr-lab at c99d6ca466.";
-    let mut list = List::new("queries", &[head, QUERY, answers]);
+    let lent = "The query for a row is lent the open tiles of each tile row.";
+    let mut list = List::new("queries", &[head, QUERY, answers, lent, OPEN_TILES]);
     let l = &mut list;
     let page = Picture::packed(8, 7, &noise(56, 31));
     l.comment("tiles wider than high and higher than wide, ragged last tiles; no, some and all skipped");

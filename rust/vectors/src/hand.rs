@@ -49,14 +49,14 @@ type Picture = [u64; 4];
 /// the given length.
 fn line(which: u64, [length, width, height, stride]: Picture, others: &[u64], second: u64) -> Line {
     let numbers = [&[which, width, height, stride], others].concat();
-    let lengths = if [SET, ROW_MUT, UNPACK].contains(&which) { [second, length] } else { [length, second] };
-    Line { numbers, lengths: [lengths[0], lengths[1], 0, 0, 0], ..Line::default() }
+    let [from, to] = if [SET, ROW_MUT, UNPACK].contains(&which) { [second, length] } else { [length, second] };
+    Line { numbers, lengths: [from, to, 0, 0, 0, 0], ..Line::default() }
 }
 
 /// Writes each call that takes a place. The other slice of a row call has a byte more than the row.
 fn place(l: &mut List, picture: Picture, x: u64, y: u64, pixel: u64, row: u64) {
     let [length, width, _, _] = picture;
-    let checked = |which, others: &[u64]| Line { lengths: [0; 5], ..line(which, picture, others, 0) };
+    let checked = |which, others: &[u64]| Line { lengths: [0; 6], ..line(which, picture, others, 0) };
     l.answered(&checked(CHECK_PIXEL, &[length, x, y]), pixel);
     l.answered(&checked(CHECK_ROW, &[length, y]), row);
     if length > LENT {
@@ -81,7 +81,7 @@ pub fn layouts() -> List {
     from_table("layouts", include_str!("../hand/layouts.txt"), what, |l, row| {
         let picture: Picture = row.numbers();
         let [number] = row.numbers();
-        l.answered(&Line { lengths: [0; 5], ..line(LAYOUT, picture, &[picture[FROM]], 0) }, number);
+        l.answered(&Line { lengths: [0; 6], ..line(LAYOUT, picture, &[picture[FROM]], 0) }, number);
         place(l, picture, 0, 0, number, number);
         if picture[FROM] <= LENT && number != 0 {
             plane(l, picture, 64, 0, number);
@@ -116,7 +116,7 @@ pub fn pixels() -> List {
         let get = Line { from: before.clone(), ..line(GET, picture, &[x, y], 0) };
         assert_eq!(l.accepted(&get).values, [held]);
         let set = Line { before, ..line(SET, picture, &[x, y, value], 0) };
-        assert_eq!(l.accepted(&set).to, after);
+        assert_eq!(l.accepted(&set).left.to, after);
     })
 }
 
@@ -129,9 +129,9 @@ pub fn rows() -> List {
         let (before, held) = (row.bytes(picture[FROM]), row.bytes(width));
         let (other, after) = (row.bytes(width), row.bytes(picture[FROM]));
         let read = Line { from: before.clone(), ..line(ROW, picture, &[y], width + 1) };
-        assert_eq!(l.accepted(&read).to[..width as usize], held);
+        assert_eq!(l.accepted(&read).left.to[..width as usize], held);
         let write = Line { from: [other, vec![0]].concat(), before, ..line(ROW_MUT, picture, &[y], width + 1) };
-        assert_eq!(l.accepted(&write).to, after);
+        assert_eq!(l.accepted(&write).left.to, after);
     })
 }
 
@@ -141,7 +141,7 @@ pub fn pack() -> List {
         let [room, at] = row.numbers();
         let (from, before) = (row.bytes(picture[FROM]), row.bytes(room));
         let packed = l.accepted(&Line { from, before, ..line(PACK, picture, &[at], room) });
-        assert_eq!(packed.to, row.bytes(room));
+        assert_eq!(packed.left.to, row.bytes(room));
     })
 }
 
@@ -151,6 +151,6 @@ pub fn unpack() -> List {
         let [room, at] = row.numbers();
         let (from, before) = (row.bytes(room), row.bytes(picture[FROM]));
         let unpacked = l.accepted(&Line { from, before, ..line(UNPACK, picture, &[at], room) });
-        assert_eq!(unpacked.to, row.bytes(picture[FROM]));
+        assert_eq!(unpacked.left.to, row.bytes(picture[FROM]));
     })
 }

@@ -1,37 +1,47 @@
 //! Writes a list of cases, which crates/pictures replays. A line has these sections, separated by ';': the call and its
-//! numbers; the lengths of the five lent slices; the number and the values of the answer; the bytes of the first slice
-//! before the call, of the second before it, of the second after it, and of the third after it. A slice whose bytes
-//! before the call do not stand in the line holds noise.
+//! numbers; the lengths of the six lent slices; the number and the values of the answer; the bytes of the first slice
+//! before the call, of the second before it, of the second after it, and of the third after it; the numbers of the
+//! count buffer before the call and after it. A slice whose bytes before the call do not stand in the line holds noise.
 
 use crate::asked;
-use crate::picture::noise;
+use crate::picture::{noise, states};
 use std::fmt::Write;
 
-/// The places of the slices among the lengths: a source, a destination, another destination, the byte workspace and the
-/// u64 workspace.
+/// The places of the slices among the lengths: a source, a destination, another destination, the byte workspace, the
+/// u64 workspace and the count buffer.
 pub const FROM: usize = 0;
 pub const TO: usize = 1;
 pub const OTHER: usize = 2;
 pub const BYTES: usize = 3;
 pub const U64S: usize = 4;
+pub const U16S: usize = 5;
 
-/// The longest slice whose bytes after a call are listed.
-const LISTED: usize = 256;
+/// The longest slice whose contents after a call are listed.
+const LISTED: usize = 300;
 
-/// A call: its own number and its numeric arguments, the lengths, and the listed bytes of the first two slices.
+/// A call: its own number and its numeric arguments, the lengths, the listed bytes of the first two slices, and the
+/// listed numbers of the count buffer.
 #[derive(Clone, Default)]
 pub struct Line {
     pub numbers: Vec<u64>,
-    pub lengths: [u64; 5],
+    pub lengths: [u64; 6],
     pub from: Vec<u8>,
     pub before: Vec<u8>,
+    pub open_tiles: Vec<u16>,
 }
 
-/// The values of an accepted call, and the two slices that it writes.
-pub struct Answer {
-    pub values: Vec<u64>,
+/// The lent slices that a call may write, and the count buffer, which a query only reads.
+#[derive(Clone, Default)]
+pub struct Written {
     pub to: Vec<u8>,
     pub other: Vec<u8>,
+    pub open_tiles: Vec<u16>,
+}
+
+/// The values of an accepted call, and the slices as it leaves them.
+pub struct Answer {
+    pub values: Vec<u64>,
+    pub left: Written,
 }
 
 #[derive(Default)]
@@ -62,29 +72,46 @@ impl List {
         writeln!(self.text, "# {line}").expect("a string takes every line");
     }
 
-    /// Returns what a slice of the next case holds before the call: listed bytes, or the noise that crates/pictures
-    /// makes.
+    /// Returns the seed of the noise of a slice of the next case.
+    fn seed(&self, slice: usize) -> u32 {
+        let seed = (8 * (self.cases + 1) + slice as u64) as u32;
+        seed.wrapping_mul(2_654_435_761)
+    }
+
+    /// Returns what a slice of bytes of the next case holds before the call: listed bytes, or the noise that
+    /// crates/pictures makes.
     fn held(&self, line: &Line, slice: usize) -> Vec<u8> {
         let listed = [&line.from, &line.before].get(slice).map_or(&[][..], |bytes| bytes);
         if listed.is_empty() {
-            let seed = (8 * (self.cases + 1) + slice as u64) as u32;
-            return noise(line.lengths[slice] as usize, seed.wrapping_mul(2_654_435_761));
+            return noise(line.lengths[slice] as usize, self.seed(slice));
         }
         assert_eq!(listed.len() as u64, line.lengths[slice], "a byte for each place");
         listed.to_vec()
     }
 
-    /// Writes a refused call, which leaves every slice as it was. The number is document 01's.
+    /// Does the same for the count buffer.
+    fn held_numbers(&self, line: &Line) -> Vec<u16> {
+        if line.open_tiles.is_empty() {
+            let number = |state: u32| (state >> 16) as u16;
+            return states(self.seed(U16S)).map(number).take(line.lengths[U16S] as usize).collect();
+        }
+        assert_eq!(line.open_tiles.len() as u64, line.lengths[U16S], "a number for each place");
+        line.open_tiles.clone()
+    }
+
+    /// Writes a refused call, which leaves every slice as it was. The number is document 01's or 02's.
     pub fn refused(&mut self, line: &Line, number: u64) {
-        self.write(line, number, &[], &[], &[]);
+        self.write(line, number, &[], &Written::default());
     }
 
     /// Writes an accepted call, whose answer comes from `asked`.
     pub fn accepted(&mut self, line: &Line) -> Answer {
-        let from = self.held(line, FROM);
-        let answer = asked::answer(&line.numbers, &from, self.held(line, TO), self.held(line, OTHER));
-        let short = |bytes: &[u8]| if bytes.len() > LISTED { vec![] } else { bytes.to_vec() };
-        self.write(line, 0, &answer.values, &short(&answer.to), &short(&answer.other));
+        let held =
+            Written { to: self.held(line, TO), other: self.held(line, OTHER), open_tiles: self.held_numbers(line) };
+        let answer = asked::answer(&line.numbers, &self.held(line, FROM), held);
+        let Written { to, other, open_tiles } = &answer.left;
+        let after = Written { to: short(to), other: short(other), open_tiles: short(open_tiles) };
+        self.write(line, 0, &answer.values, &after);
         answer
     }
 
@@ -104,21 +131,29 @@ impl List {
         let pixels = marked.unwrap_or_default();
         to[..pixels.len()].copy_from_slice(pixels);
         other[..answer.len()].copy_from_slice(answer.as_bytes());
-        let after = if marked.is_some() && to.len() <= LISTED { &to[..] } else { &[] };
-        self.write(line, u64::from(marked.is_none()), &[answer.len() as u64], after, &other);
+        let to = if marked.is_some() { short(&to) } else { vec![] };
+        self.write(
+            line,
+            u64::from(marked.is_none()),
+            &[answer.len() as u64],
+            &Written { to, other, open_tiles: vec![] },
+        );
     }
 
-    fn write(&mut self, line: &Line, number: u64, values: &[u64], after: &[u8], other: &[u8]) {
+    /// Writes a line. A call that is lent no count buffer has no length of one.
+    fn write(&mut self, line: &Line, number: u64, values: &[u64], after: &Written) {
         self.cases += 1;
-        let bytes = |slice: &[u8]| slice.iter().map(|&byte| u64::from(byte)).collect::<Vec<u64>>();
+        let lent = if line.lengths[U16S] == 0 { U16S } else { line.lengths.len() };
         let sections = [
             line.numbers.clone(),
-            line.lengths.to_vec(),
+            line.lengths[..lent].to_vec(),
             [&[number], values].concat(),
-            bytes(&line.from),
-            bytes(&line.before),
-            bytes(after),
-            bytes(other),
+            wide(&line.from),
+            wide(&line.before),
+            wide(&after.to),
+            wide(&after.other),
+            wide(&line.open_tiles),
+            wide(&after.open_tiles),
         ];
         let sections = sections.map(|section| section.iter().map(u64::to_string).collect::<Vec<String>>().join(" "));
         let text = sections.join("; ");
@@ -127,5 +162,18 @@ impl List {
 
     pub fn text(&self) -> &str {
         &self.text
+    }
+}
+
+fn wide<T: Copy + Into<u64>>(numbers: &[T]) -> Vec<u64> {
+    numbers.iter().map(|&number| number.into()).collect()
+}
+
+/// Returns a slice if it is short enough to be listed, or else nothing.
+fn short<T: Clone>(slice: &[T]) -> Vec<T> {
+    if slice.len() > LISTED {
+        vec![]
+    } else {
+        slice.to_vec()
     }
 }

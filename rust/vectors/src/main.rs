@@ -1,16 +1,19 @@
-//! Makes the lists that crates/pictures replays: document 01's refusals, and the answers of the published Rust.
+//! Makes the lists that crates/pictures replays: refusals by documents 01 and 02, and the published Rust's answers.
 //! `vectors column` prints the text that the program of that name has to write. `vectors check` makes everything again
 //! and compares it with what is stored.
 
 mod asked;
+mod blanking;
 mod chain;
 mod column;
 mod conditions;
 mod grids;
 mod hand;
 mod list;
+mod open;
 mod picture;
 mod program;
+mod queries;
 mod readings;
 mod refusals;
 mod stored;
@@ -21,7 +24,7 @@ use std::path::Path;
 use std::process::exit;
 use std::{env, fs};
 
-const LISTS: [(&str, fn() -> List); 20] = [
+const LISTS: [(&str, fn() -> List); 22] = [
     ("layouts", hand::layouts),
     ("places", hand::places),
     ("planes", hand::planes),
@@ -38,7 +41,9 @@ const LISTS: [(&str, fn() -> List); 20] = [
     ("grid", grids::grid),
     ("grid_refusals", refusals::grid),
     ("queries", grids::queries),
-    ("queries_refusals", refusals::queries),
+    ("queries_refusals", queries::queries),
+    ("blanking", blanking::list),
+    ("blanking_refusals", queries::blanking),
     ("reading", readings::reading),
     ("reading_refusals", refusals::reading),
     ("answers", program::list),

@@ -66,13 +66,13 @@ impl Destination {
     }
 }
 
-/// Returns bytes that look random and are the same each time.
+/// Returns numbers that look random and are the same each time, without end.
+pub fn states(seed: u32) -> impl Iterator<Item = u32> {
+    let next = |state: &u32| Some(state.wrapping_mul(1_664_525).wrapping_add(1_013_904_223));
+    std::iter::successors(Some(seed), next).skip(1)
+}
+
+/// Returns such bytes.
 pub fn noise(count: usize, seed: u32) -> Vec<u8> {
-    let mut state = seed;
-    (0..count)
-        .map(|_| {
-            state = state.wrapping_mul(1_664_525).wrapping_add(1_013_904_223);
-            (state >> 24) as u8
-        })
-        .collect()
+    states(seed).map(|state| (state >> 24) as u8).take(count).collect()
 }

@@ -21,9 +21,9 @@ const PROGRAM: Lent = Lent { destination: 3600, bytes: 32_432, u64s: 7522, out: 
 /// Writes a case. A picture is marked in the destination; if the input is none, the destination and the workspaces stay
 /// as they were.
 fn case(l: &mut List, input: &[u8], lent: Lent, line: &str, marked: Option<&[u8]>) {
-    let lengths = [input.len(), lent.destination, lent.out, lent.bytes, lent.u64s].map(|length| length as u64);
+    let lengths = [input.len(), lent.destination, lent.out, lent.bytes, lent.u64s, 0].map(|length| length as u64);
     let numbers = vec![asked::PROGRAM, u64::from(marked.is_none())];
-    l.printed(&Line { numbers, lengths, from: input.to_vec(), before: vec![] }, line, marked);
+    l.printed(&Line { numbers, lengths, from: input.to_vec(), ..Line::default() }, line, marked);
 }
 
 fn refused(l: &mut List, input: &[u8], lent: Lent, number: u32) {
@@ -41,7 +41,7 @@ pub fn line(width: usize, height: usize, pixels: &[u8]) -> (String, Vec<u8>) {
     let picture = Picture::packed(width, height, pixels);
     let mut marked = Destination::packed(width, height);
     let counts = read(&picture, &mut marked, &Settings::default());
-    let Counts { dark, light, skipped, comparisons } = counts;
+    let Counts { dark, light, skipped, comparisons, .. } = counts;
     (format!("{width} {height} {dark} {light} {skipped} {comparisons}\n"), marked.bytes)
 }
 

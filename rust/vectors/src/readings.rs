@@ -1,10 +1,11 @@
 //! Makes the list of readings.
 
-use crate::asked::READING;
+use crate::asked::{reading as settings, READING};
+use crate::chain::{flattened, open_tiles};
 use crate::grids::TILES;
 use crate::list::List;
 use crate::picture::{noise, Picture};
-use crate::stored::{asked, each, EXACT, WALK};
+use crate::stored::{asked, each, EXACT, OPEN_TILES, WALK};
 
 /// The settings of a reading: element target floor, opening kernel, the grid's eight, radius k-milli dynamic-range
 /// dark light.
@@ -52,8 +53,10 @@ fn judgements(l: &mut List) {
     let glass = Picture::new(10, 7, 13, 2, &half_flat(10, 7));
     l.comment("dark, light and skipped; tiles ragged on both sides");
     let chosen = tiled(kernels(5, 3), 3, 2, 12);
-    let counts = asked(l, READING, &glass, 12, 3, &chosen).values;
-    assert!(counts.iter().all(|&count| count > 0), "{counts:?}");
+    let answer = asked(l, READING, &glass, 12, 3, &chosen);
+    assert!(answer.values.iter().all(|&count| count > 0), "{:?}", answer.values);
+    assert_ne!(answer.left.open_tiles, open_tiles(&glass, &settings(&chosen)));
+    assert_ne!(answer.left.open_tiles, open_tiles(&flattened(&glass, &settings(&chosen)), &settings(&chosen)));
     let others = [tiled(kernels(3, 5), 3, 2, 12), tiled(kernels(7, 3), 4, 5, 12), tiled(kernels(31, 3), 1, 3, 30)];
     readings(l, "element and opening kernel apart, and exchanged", &glass, 12, 3, &others);
     let both = [(7, 7), (255, 0), (1, 2)].map(|(dark, light)| with(chosen, &[(15, dark), (16, light)]));
@@ -83,13 +86,15 @@ pub fn reading() -> List {
     let head = ["Readings, call 19:", READINGS, TILES, WINDOW, "dark light skipped comparisons."];
     let chain = "The bytes and the first three counts are those of the published Rust, aukilabs/qr-lab at c99d6ca466,";
     let after = "whose calls are made one after the other (rust/vectors/src/chain.rs).";
-    let mut list = List::new("reading", &[&head.join(" "), chain, after, WALK, EXACT]);
+    let mut list = List::new("reading", &[&head.join(" "), chain, after, WALK, OPEN_TILES, EXACT]);
     let l = &mut list;
     l.comment("document 01's row, and the same with the contrast floor 0");
     let row = Picture::row(&[0, 200]);
     let skipped = asked(l, READING, &row, 2, 0, &kernels(3, 3));
-    assert_eq!((skipped.values, skipped.to), (vec![0, 0, 2, 24], vec![255, 255]));
-    assert_eq!(asked(l, READING, &row, 2, 0, &with(kernels(3, 3), &[(7, 0)])).values, [2, 0, 0, 24]);
+    assert_eq!((skipped.values, skipped.left.to), (vec![0, 0, 2, 24], vec![255, 255]));
+    assert_eq!(skipped.left.open_tiles, [0]);
+    let dark = asked(l, READING, &row, 2, 0, &with(kernels(3, 3), &[(7, 0)]));
+    assert_eq!((dark.values, dark.left.open_tiles), (vec![2, 0, 0, 24], vec![1]));
     readings(l, "the same row with the Rust's element", &row, 2, 0, &[kernels(31, 3)]);
     judgements(l);
     let far = [kernels(u64::MAX, 3), kernels(3, u64::MAX), kernels(9, 5), kernels(13, 3)];

@@ -1,12 +1,12 @@
 //! Makes the lists of refusals of each call, with limits exact and one short. The answers of accepted calls among them
 //! come from `asked`, as in the other lists.
 
-use crate::asked::{BUILD, CLOSE, DILATE, DIVIDE, ERODE, IS_SKIP, OPEN, READING, ROW_ALL_SKIP, SAUVOLA, THRESHOLD_AT};
+use crate::asked::{BUILD, CLOSE, DILATE, DIVIDE, ERODE, OPEN, READING, SAUVOLA};
 use crate::conditions::{
     bad, combined, layout, lent, limits, numbered, pictured, pictures, short, Condition, DESTINATION, SOURCE,
 };
-use crate::grids::{QUERY, TILES};
-use crate::list::{Line, List, BYTES, FROM, OTHER, TO, U64S};
+use crate::grids::TILES;
+use crate::list::{Line, List, BYTES, OTHER, TO, U16S, U64S};
 use crate::readings::{kernels, READINGS, WINDOW};
 use crate::stored::room;
 
@@ -18,15 +18,15 @@ const EVEN_OR_SMALL: [u64; 6] = [0, 1, 2, 4, 4096, u64::MAX - 1];
 
 /// Makes a call on pictures of 4 by 3 with two strides, each slice as short as it may be.
 fn operator(which: u64, settings: &[u64]) -> Line {
-    let (bytes, u64s) = room(which, 4, 3, settings);
+    let [bytes, u64s, rows] = room(which, 4, 3, settings);
     let numbers = [&[which, 4, 3, 5, 4, 3, 6], settings].concat();
-    Line { numbers, lengths: [14, 16, 0, bytes, u64s], ..Line::default() }
+    Line { numbers, lengths: [14, 16, 0, bytes, u64s, rows], ..Line::default() }
 }
 
 /// Makes a call on two packed pictures of one size.
 fn packed(which: u64, width: u64, height: u64, settings: &[u64]) -> Line {
-    let (bytes, u64s) = room(which, width, height, settings);
-    let line = Line { lengths: [0, 0, 0, bytes, u64s], ..operator(which, settings) };
+    let [bytes, u64s, rows] = room(which, width, height, settings);
+    let line = Line { lengths: [0, 0, 0, bytes, u64s, rows], ..operator(which, settings) };
     let picture = [width * height, width, height, width];
     pictured(&pictured(&line, SOURCE, picture), DESTINATION, picture)
 }
@@ -70,6 +70,9 @@ fn rooms(l: &mut List, which: u64, settings: &[u64], slice: usize) {
 
 const BY_HAND: &str =
     "The numbers are document 01's, and of several conditions the earliest counts: no program was asked.";
+/// The same of calls that are lent a count buffer.
+pub const BY_BOTH: &str =
+    "The numbers are documents 01's and 02's, and of several conditions the earliest counts: no program was asked.";
 const KEEPS: &str = "A refused call leaves every slice as it was. What accepted calls answer is the published Rust's, \
     aukilabs/qr-lab at c99d6ca466.";
 const LAYOUTS: &str = "1 to 4 the source's layout, then the destination's; 5 sizes;";
@@ -154,11 +157,13 @@ fn floats(l: &mut List, good: &Line) {
 
 pub fn grid() -> List {
     let numbers = "1 to 4 the layout; 7 a zero tile side, or of Sauvola k or range not finite or range not above 0;";
-    let rooms = "8 a workspace under 5t u64s; 10 a buffer under t bytes, t the number of tiles; 0 accepted.";
+    let rooms =
+        "8 a workspace under 5t u64s; 10 a buffer under t bytes, t the number of tiles, or a count buffer with \
+        fewer numbers than there are tile rows; 0 accepted.";
     let head = "Refusals of the grid's build, call 15: width height stride of the source,";
-    let mut l = refusals("grid_refusals", &[head, TILES, numbers, rooms]);
+    let mut l = List::new("grid_refusals", &[head, TILES, numbers, rooms, BY_BOTH, KEEPS]);
     let numbers = vec![BUILD, 4, 3, 5, 2, 2, 1, 12, 1, 0.2f64.to_bits(), 128f64.to_bits(), 0];
-    let good = Line { numbers, lengths: [14, 4, 4, 0, 20], ..Line::default() };
+    let good = Line { numbers, lengths: [14, 4, 4, 0, 20, 2], ..Line::default() };
     let mut conditions = layout("source", SOURCE);
     conditions.extend([bad(7, "the tile width", 4, 0), bad(7, "the tile height", 5, 0)]);
     conditions.extend([bad(7, "k", K, f64::INFINITY.to_bits()), bad(7, "the range", RANGE, 0)]);
@@ -166,6 +171,7 @@ pub fn grid() -> List {
         short(8, "the workspace", U64S),
         short(10, "the thresholds", TO),
         short(10, "the skips", OTHER),
+        short(10, "the count buffer", U16S),
     ]);
     combined(&mut l, &good, &conditions, |l, line, number| l.answered(line, number));
     l.comment(
@@ -190,15 +196,19 @@ pub fn grid() -> List {
         for method in [0, 1] {
             let sized = pictured(&good, SOURCE, [width * height, width, height, width]);
             let mut exact = numbered(&numbered(&numbered(&sized, 4, tile_width), 5, tile_height), METHOD, method);
-            exact.lengths[1..].copy_from_slice(&[tiles, tiles, 0, 5 * tiles]);
+            let rows = height.div_ceil(tile_height);
+            exact.lengths[1..].copy_from_slice(&[tiles, tiles, 0, 5 * tiles, rows]);
             l.answered(&exact, 0);
             l.refused(&lent(&exact, U64S, 5 * tiles - 1), 8);
-            l.refused(&lent(&exact, TO, tiles - 1), 10);
-            l.refused(&lent(&exact, OTHER, tiles - 1), 10);
-            let none = lent(&lent(&exact, TO, 0), OTHER, 0);
+            for (slice, length) in [(TO, tiles), (OTHER, tiles), (U16S, rows)] {
+                l.refused(&lent(&exact, slice, length - 1), 10);
+            }
+            let none = lent(&lent(&lent(&exact, TO, 0), OTHER, 0), U16S, 0);
             l.refused(&lent(&none, U64S, 0), 8);
             l.refused(&none, 10);
-            l.answered(&lent(&lent(&lent(&exact, U64S, 5 * tiles + 3), TO, tiles + 2), OTHER, tiles + 1), 0);
+            let mut longer = exact;
+            longer.lengths[1..].copy_from_slice(&[tiles + 2, tiles + 1, 0, 5 * tiles + 3, rows + 3]);
+            l.answered(&longer, 0);
         }
     }
     l
@@ -206,9 +216,10 @@ pub fn grid() -> List {
 
 pub fn reading() -> List {
     let numbers = "7 the division's settings; 6 the opening's kernel; 7 the grid's, then Sauvola's settings;";
-    let rooms = "8 bytes under 9wh + 2t or u64s under 2(w + 1)(h + 1) + 5t, t the number of tiles; 0 accepted.";
+    let rooms = "8 bytes under 9wh + 2t or u64s under 2(w + 1)(h + 1) + 5t, t the number of tiles; 10 a count buffer \
+        with fewer numbers than there are tile rows; 0 accepted.";
     let head = ["Refusals of the reading, call 19:", READINGS].join(" ");
-    let mut l = refusals("reading_refusals", &[&head, TILES, WINDOW, LAYOUTS, numbers, rooms]);
+    let mut l = List::new("reading_refusals", &[&head, TILES, WINDOW, LAYOUTS, numbers, rooms, BY_BOTH, KEEPS]);
     let mut settings = kernels(5, 3);
     settings[4..11].copy_from_slice(&[2, 2, 1, 12, 1, 0.2f64.to_bits(), 128f64.to_bits()]);
     let good = operator(READING, &settings);
@@ -218,6 +229,7 @@ pub fn reading() -> List {
     conditions.extend([bad(7, "the grid's k", 16, f64::NAN.to_bits()), bad(7, "the grid's range", 17, 0)]);
     conditions.extend([bad(7, "the radius", 19, 0), bad(7, "k", 20, 1001), bad(7, "the range", 21, 0)]);
     conditions.extend([short(8, "the bytes", BYTES), short(8, "the u64s", U64S)]);
+    conditions.push(short(10, "the count buffer", U16S));
     combined(&mut l, &good, &conditions, |l, line, number| l.answered(line, number));
     l.comment("the two kernels: odd and at least 3");
     limits(&mut l, &good, 7, &ODD, &EVEN_OR_SMALL, 7);
@@ -232,81 +244,19 @@ pub fn reading() -> List {
     limits(&mut l, &good, 19, &[u64::MAX], &[], 0);
     limits(&mut l, &good, 20, &[1000], &[], 0);
     limits(&mut l, &good, 21, &[u64::from(u32::MAX)], &[], 0);
-    l.comment("the workspaces exact, each of them one short, none, and both longer; several tiles");
+    l.comment("the workspaces and the count buffer exact, each of them one short, none, and all longer; several tiles");
     let shapes = [(4, 3, 2, 2), (5, 4, 2, 3), (5, 4, 16, 16), (5, 4, 1, 1), (5, 4, u64::MAX, 1), (1, 1, 1, 1)];
     for (width, height, tile_width, tile_height) in shapes.into_iter().chain([(4096, 1, 16, 16), (1, 4096, 16, 16)]) {
         (settings[4], settings[5], settings[8]) = (tile_width, tile_height, 0);
         let exact = packed(READING, width, height, &settings);
-        let [bytes, u64s] = [exact.lengths[BYTES], exact.lengths[U64S]];
+        let [bytes, u64s, rows] = [BYTES, U64S, U16S].map(|slice| exact.lengths[slice]);
         l.answered(&exact, 0);
-        l.refused(&lent(&exact, BYTES, bytes - 1), 8);
-        l.refused(&lent(&exact, U64S, u64s - 1), 8);
-        l.refused(&lent(&exact, BYTES, 0), 8);
-        l.refused(&lent(&exact, U64S, 0), 8);
-        l.answered(&lent(&lent(&exact, BYTES, bytes + 3), U64S, u64s + 5), 0);
+        for (slice, length, number) in [(BYTES, bytes, 8), (U64S, u64s, 8), (U16S, rows, 10)] {
+            l.refused(&lent(&exact, slice, length - 1), number);
+            l.refused(&lent(&exact, slice, 0), number);
+        }
+        l.refused(&lent(&lent(&exact, U64S, u64s - 1), U16S, 0), 8);
+        l.answered(&lent(&lent(&lent(&exact, BYTES, bytes + 3), U64S, u64s + 5), U16S, rows + 2), 0);
     }
     l
-}
-
-/// Writes the three queries for one place, with the number of the pixel's two and that of the row's.
-fn asked(l: &mut List, query: &Line, pixel: u64, row: u64) {
-    for (which, number) in [(THRESHOLD_AT, pixel), (IS_SKIP, pixel), (ROW_ALL_SKIP, row)] {
-        l.answered(&numbered(query, 0, which), number);
-    }
-}
-
-pub fn queries() -> List {
-    let head = "Refusals of queries to a grid, calls 16 (threshold), 17 (skip) and 18 (a row's skips):";
-    let numbers = "7 a side outside 1..4096, a zero tile side, or tile counts that are not the ceilings;";
-    let others =
-        "10 a buffer under tiles-x * tiles-y bytes; 9 a pixel or row outside; 0 answered by a plain walk (asked.rs).";
-    let mut list = List::new("queries_refusals", &[head, QUERY, numbers, others, BY_HAND]);
-    let l = &mut list;
-    // A picture of 8 by 7 in tiles of 3 by 2 has 3 by 4 of them. The numbers: sides, tile sides, tile counts, x, y.
-    let query = |numbers: [u64; 8], room: u64| Line {
-        numbers: [&[0], &numbers[..]].concat(),
-        lengths: [room, 0, 0, 0, 0],
-        ..Line::default()
-    };
-    let good = query([8, 7, 3, 2, 3, 4, 7, 6], 12);
-    let conditions = [
-        bad(7, "no width", 1, 0),
-        bad(7, "no height", 2, 0),
-        bad(7, "no tile width", 3, 0),
-        bad(7, "no tile height", 4, 0),
-        bad(7, "a tile column too many", 5, 4),
-        bad(7, "a tile row too few", 6, 3),
-        short(10, "the buffer", FROM),
-        bad(9, "a row outside", 8, 7),
-    ];
-    combined(l, &good, &conditions, |l, line, number| asked(l, line, number, number));
-    l.comment("a column outside alone, which a row's query is not asked, and after each other condition");
-    [8, 9, u64::MAX].iter().for_each(|&x| asked(l, &numbered(&good, 7, x), 9, 0));
-    for (number, _, change) in &conditions {
-        asked(l, &change(&numbered(&good, 7, 8)), *number, *number);
-    }
-    l.comment("sides at the limit and above it, rows far outside, the largest tiles, counts one off on either side");
-    let far = u64::MAX;
-    for (numbers, room, pixel, row) in [
-        ([4096, 1, 1024, 1, 4, 1, 4095, 0], 4, 0, 0),
-        ([4096, 1, 1024, 1, 4, 1, 4096, 0], 4, 9, 0),
-        ([4097, 1, 1024, 1, 5, 1, 4095, 0], 5, 7, 7),
-        ([4096, 4097, 1024, 1, 4, 4097, 4095, 0], 4, 7, 7),
-        ([8, 7, 3, 2, 3, 4, 7, far], 12, 9, 9),
-        ([8, 7, far, far, 1, 1, 7, 6], 1, 0, 0),
-        ([8, 7, far, far, 1, 1, 7, 6], 0, 10, 10),
-        ([8, 7, far, far, 0, 1, 7, 6], 1, 7, 7),
-        ([8, 7, far, far, 1, far, 7, 6], 1, 7, 7),
-        ([8, 7, 3, 2, 2, 4, 7, 6], 12, 7, 7),
-        ([8, 7, 3, 2, 4, 4, 7, 6], 12, 7, 7),
-        ([8, 7, 3, 2, 3, 3, 7, 6], 12, 7, 7),
-        ([8, 7, 3, 2, 3, 5, 7, 6], 12, 7, 7),
-        ([8, 7, 3, 2, 4, 3, 7, 6], 12, 7, 7),
-        ([8, 7, 3, 2, 0, 0, 7, 6], 12, 7, 7),
-        ([8, 7, 3, 2, 3, 4, 7, 6], 13, 0, 0),
-        ([8, 7, 3, 2, 3, 4, 7, 6], 0, 10, 10),
-    ] {
-        asked(l, &query(numbers, room), pixel, row);
-    }
-    list
 }

@@ -7,31 +7,36 @@ use crate::picture::{noise, Picture};
 pub const RUST: &str = "The bytes are those of the published Rust, aukilabs/qr-lab at c99d6ca466.";
 pub const WALK: &str = "The comparisons, which it does not count, are a plain walk over the indices (walk.rs).";
 pub const EXACT: &str = "The workspaces are as short as they may be.";
+pub const OPEN_TILES: &str =
+    "The open tiles, which the Rust does not count, are counted from its skips (rust/vectors/src/open.rs).";
 
-/// Returns the lengths of the two workspaces of an operator, by document 01.
-pub fn room(which: u64, width: u64, height: u64, settings: &[u64]) -> (u64, u64) {
+/// Returns the lengths of the two workspaces of an operator and of its count buffer, by documents 01 and 02.
+pub fn room(which: u64, width: u64, height: u64, settings: &[u64]) -> [u64; 3] {
     let (area, table) = (width * height, 2 * (width + 1) * (height + 1));
     match which {
-        ERODE..=CLOSE => (6 * area, 0),
-        DIVIDE => (7 * area, 0),
-        SAUVOLA => (0, table),
+        ERODE..=CLOSE => [6 * area, 0, 0],
+        DIVIDE => [7 * area, 0, 0],
+        SAUVOLA => [0, table, 0],
         _ => {
-            let tiles = width.div_ceil(settings[4]) * height.div_ceil(settings[5]);
-            (9 * area + 2 * tiles, table + 5 * tiles)
+            let rows = height.div_ceil(settings[5]);
+            let tiles = width.div_ceil(settings[4]) * rows;
+            [9 * area + 2 * tiles, table + 5 * tiles, rows]
         }
     }
 }
 
-/// Writes a call from a picture to a destination of its size, with a stride and a tail.
+/// Writes a call from a picture to a destination of its size, with a stride and a tail. A count buffer has as long a
+/// tail.
 pub fn asked(l: &mut List, which: u64, picture: &Picture, stride: usize, tail: usize, settings: &[u64]) -> Answer {
     let [width, height, from] = [picture.width, picture.height, picture.stride].map(|side| side as u64);
-    let (bytes, u64s) = room(which, width, height, settings);
+    let [bytes, u64s, rows] = room(which, width, height, settings);
+    let rows = if rows == 0 { 0 } else { rows + tail as u64 };
     let to = stride * (picture.height - 1) + picture.width + tail;
     l.accepted(&Line {
         numbers: [&[which, width, height, from, width, height, stride as u64], settings].concat(),
-        lengths: [picture.bytes.len() as u64, to as u64, 0, bytes, u64s],
+        lengths: [picture.bytes.len() as u64, to as u64, 0, bytes, u64s, rows],
         from: picture.bytes.clone(),
-        before: vec![],
+        ..Line::default()
     })
 }
 
@@ -126,7 +131,7 @@ pub fn division() -> List {
     let l = &mut list;
     l.comment("document 01's row and single pixels");
     for (pixels, flattened) in [(&[255, 0, 0, 0][..], &[255, 0, 0, 0][..]), (&[3], &[75]), (&[8], &[200])] {
-        assert_eq!(asked(l, DIVIDE, &Picture::row(pixels), pixels.len(), 0, extremes[0]).to, flattened);
+        assert_eq!(asked(l, DIVIDE, &Picture::row(pixels), pixels.len(), 0, extremes[0]).left.to, flattened);
     }
     each(l, "one black pixel", DIVIDE, &Picture::new(1, 1, 1, 1, &[0]), 3, 2, &extremes);
     each(l, "one white pixel", DIVIDE, &Picture::new(1, 1, 2, 0, &[255]), 1, 0, &extremes[1..]);
@@ -156,9 +161,9 @@ pub fn sauvola() -> List {
     let mut list = List::new("sauvola", &[head, RUST, EXACT]);
     let l = &mut list;
     l.comment("document 01's pixels, and its row of threshold 95");
-    assert_eq!(asked(l, SAUVOLA, &Picture::row(&[0]), 1, 0, usual).to, [0]);
-    assert_eq!(asked(l, SAUVOLA, &Picture::row(&[1]), 1, 0, usual).to, [255]);
-    assert_eq!(asked(l, SAUVOLA, &Picture::row(&[0, 200]), 2, 0, usual).to, [0, 255]);
+    assert_eq!(asked(l, SAUVOLA, &Picture::row(&[0]), 1, 0, usual).left.to, [0]);
+    assert_eq!(asked(l, SAUVOLA, &Picture::row(&[1]), 1, 0, usual).left.to, [255]);
+    assert_eq!(asked(l, SAUVOLA, &Picture::row(&[0, 200]), 2, 0, usual).left.to, [0, 255]);
     l.comment("around that threshold, in a window of its mean and spread");
     asked(l, SAUVOLA, &Picture::row(&[0, 200, 95, 105]), 4, 0, &window(3, 200, 128));
     asked(l, SAUVOLA, &Picture::row(&[0, 200, 94, 106]), 4, 0, &window(3, 200, 128));

@@ -4,6 +4,8 @@ use crate::case::{listed, Buffer, Case, Expected, Left, Outcome, Outs, Places};
 use crate::corner::{self, Corner, LARGEST_OFFSET};
 use crate::document;
 use crate::guard::Guarded;
+use crate::mistake::{self, Mistake};
+use crate::open;
 use crate::rng::{Rng, Word};
 use crate::rust;
 use imgproc::grid::{self as ours, flat, TileThresholdConfig, TileThresholdMethod};
@@ -23,6 +25,7 @@ pub struct Build {
     pub room: usize,
     pub thresholds: usize,
     pub skips: usize,
+    pub open_tiles: usize,
     seed: u64,
 }
 
@@ -42,10 +45,10 @@ impl Build {
             TileThresholdMethod::Midrange => (0, f64::NAN, f64::NAN),
             TileThresholdMethod::Sauvola { k, dynamic_range } => (1, k, dynamic_range),
         };
-        let mut case = Self { src, g, config, method, k, dynamic_range, room: 0, thresholds: 0, skips: 0, seed };
-        let tiles = case.tiles();
-        (case.room, case.thresholds, case.skips) = (5 * tiles, tiles, tiles);
-        case
+        let tiles = ours::tiles(g.width, g.height, config.tile_width, config.tile_height);
+        let open_tiles = ours::tile_rows(g.height, config.tile_height);
+        let (room, thresholds, skips) = (5 * tiles, tiles, tiles);
+        Self { src, g, config, method, k, dynamic_range, room, thresholds, skips, open_tiles, seed }
     }
 
     /// Returns the expected number, or else the Rust's grid and the expected thresholds.
@@ -71,7 +74,7 @@ impl Build {
         if self.room < 5 * tiles {
             return Err(document::WORKSPACE_TOO_SMALL);
         }
-        if self.thresholds < tiles || self.skips < tiles {
+        if self.thresholds < tiles || self.skips < tiles || self.open_tiles < grid.tiles_y() {
             return Err(document::GRID_BUFFER_TOO_SMALL);
         }
         let mut thresholds = grid.thresholds().to_vec();
@@ -84,9 +87,9 @@ impl Build {
         Ok((grid, thresholds))
     }
 
-    fn noise(&self) -> [u64; 5] {
+    fn noise(&self) -> [u64; 6] {
         let mut rng = Rng::new(self.seed);
-        [(); 5].map(|()| rng.next())
+        [(); 6].map(|()| rng.next())
     }
 }
 
@@ -96,11 +99,12 @@ impl Case for Build {
     }
 
     fn ours(&self) -> Outcome {
-        let [a, b, c, d, e] = self.noise();
+        let [a, b, c, d, e, f] = self.noise();
         let src = Guarded::new(&self.src);
         let mut thresholds = Guarded::new(&u8::noise(self.thresholds, a));
         let mut skips = Guarded::new(&u8::noise(self.skips, b));
         let mut workspace = Guarded::new(&u64::noise(self.room, c));
+        let mut open_tiles = Guarded::new(&u16::noise(self.open_tiles, f));
         let (mut tiles_x, mut tiles_y) = (d as usize, e as usize);
         let number = flat::tile_grid_build(
             &src,
@@ -112,23 +116,31 @@ impl Case for Build {
             &mut workspace,
             &mut thresholds,
             &mut skips,
+            &mut open_tiles,
             &mut tiles_x,
             &mut tiles_y,
         );
         Outcome {
             number,
             outs: named(tiles_x, tiles_y),
-            lent: vec![Buffer::Bytes(src), Buffer::Bytes(thresholds), Buffer::Bytes(skips), Buffer::U64s(workspace)],
+            lent: vec![
+                Buffer::Bytes(src),
+                Buffer::Bytes(thresholds),
+                Buffer::Bytes(skips),
+                Buffer::U64s(workspace),
+                Buffer::U16s(open_tiles),
+            ],
         }
     }
 
     fn expected(&self) -> Result<Expected<'_>, String> {
-        let [a, b, c, d, e] = self.noise();
+        let [a, b, c, d, e, f] = self.noise();
         let src = Left::Bytes(Cow::Borrowed(self.src.as_slice()));
         Ok(match self.decided() {
             Err(number) => {
                 let outs = named(d as usize, e as usize);
-                Expected { number, outs, lent: vec![src, Left::Noise(a), Left::Noise(b), Left::Noise(c)] }
+                let lent = [a, b, c, f].map(Left::Noise);
+                Expected { number, outs, lent: [src].into_iter().chain(lent).collect() }
             }
             Ok((grid, stored)) => {
                 let (mut thresholds, mut skips) = (u8::noise(self.thresholds, a), u8::noise(self.skips, b));
@@ -136,11 +148,12 @@ impl Case for Build {
                 for (byte, &skip) in skips.iter_mut().zip(grid.skip_mask()) {
                     *byte = u8::from(skip);
                 }
+                let open_tiles = open::stored(&open::of_rows(&grid), u16::noise(self.open_tiles, f));
                 let (thresholds, skips) = (Left::Bytes(Cow::Owned(thresholds)), Left::Bytes(Cow::Owned(skips)));
                 Expected {
                     number: 0,
                     outs: named(grid.tiles_x(), grid.tiles_y()),
-                    lent: vec![src, thresholds, skips, Left::Open],
+                    lent: vec![src, thresholds, skips, Left::Open, Left::U16s(Cow::Owned(open_tiles))],
                 }
             }
         })
@@ -153,17 +166,28 @@ impl Case for Build {
             _ => return Ok(()),
         };
         let config = TileThresholdConfig { method, ..self.config };
-        let (mut thresholds, mut skips) = (vec![0; self.thresholds], vec![0; self.skips]);
-        let mut workspace = vec![0; self.room];
-        let answer = ours::tile_grid_build(&self.src, self.g, &config, &mut workspace, &mut thresholds, &mut skips);
+        let [a, b, _, _, _, f] = self.noise();
+        let (mut thresholds, mut skips) = (u8::noise(self.thresholds, a), u8::noise(self.skips, b));
+        let (mut workspace, mut open_tiles) = (vec![0; self.room], u16::noise(self.open_tiles, f));
+        let answer = ours::tile_grid_build(
+            &self.src,
+            self.g,
+            &config,
+            &mut workspace,
+            &mut thresholds,
+            &mut skips,
+            &mut open_tiles,
+        );
         let right = match Refusal::from_number(expected.number) {
             Some(refusal) => answer == Err(refusal),
             None => answer.is_ok_and(|grid| named(grid.tiles_x, grid.tiles_y) == expected.outs),
         };
-        if right {
+        let lent = &expected.lent;
+        let filled = lent[1].are_bytes(&thresholds) && lent[2].are_bytes(&skips) && lent[4].are_u16s(&open_tiles);
+        if right && filled {
             Ok(())
         } else {
-            Err(format!("the safe call answers {answer:?}"))
+            Err(format!("the safe call answers {answer:?}, or writes otherwise"))
         }
     }
 
@@ -177,6 +201,13 @@ impl Case for Build {
             beside: (self.thresholds > tiles).then_some((1, tiles)),
             source: Some((0, self.src.len() / 2)),
         }
+    }
+
+    fn mistaken(&self, mistake: Mistake, outcome: &mut Outcome) -> bool {
+        let Ok((grid, _)) = self.decided() else {
+            return false;
+        };
+        mistake::count(mistake, grid.skip_mask(), grid.tiles_x(), &mut outcome.lent[4])
     }
 
     fn corners(&self) -> Vec<Corner> {
@@ -226,9 +257,10 @@ impl Case for Build {
 
     fn tell(&self) -> String {
         format!(
-            "{:?}, method {}, k {:?}, range {:?}\nsource {:?}, {}\nworkspace length {}, thresholds {}, skips {}, seed {}",
+            "{:?}, method {}, k {:?}, range {:?}\nsource {:?}, {}\n\
+             workspace length {}, thresholds {}, skips {}, open tiles {}, seed {}",
             self.config, self.method, self.k, self.dynamic_range, self.g, listed(&self.src),
-            self.room, self.thresholds, self.skips, self.seed
+            self.room, self.thresholds, self.skips, self.open_tiles, self.seed
         )
     }
 }

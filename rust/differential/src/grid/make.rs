@@ -81,6 +81,7 @@ pub fn random(run: &mut Run, rng: &mut Rng) -> Checked {
         case.room += rng.below(20);
         case.thresholds += rng.below(9);
         case.skips += rng.below(9);
+        case.open_tiles += rng.below(9);
     }
     patterns::mix(rng, &mut case.k, &mut case.dynamic_range);
     match rng.below(24) {
@@ -94,7 +95,9 @@ pub fn random(run: &mut Run, rng: &mut Rng) -> Checked {
         8 => case.room -= 1,
         9 => case.thresholds = rng.below(case.thresholds),
         10 => case.skips = rng.below(case.skips),
-        11 => (case.room, case.skips) = (rng.below(case.room), 0),
+        11 => (case.room, case.skips, case.open_tiles) = (rng.below(case.room), 0, 0),
+        12 => case.open_tiles = rng.below(case.open_tiles),
+        13 => case.open_tiles = case.g.height.div_ceil(case.config.tile_height) - 1,
         _ => {}
     }
     run.case(&case)

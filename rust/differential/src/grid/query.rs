@@ -6,6 +6,8 @@ use crate::corner::{self, Corner, LARGEST_OFFSET};
 use crate::document;
 use crate::guard::Guarded;
 use crate::layouts::{largest, picture, sides, EDGES};
+use crate::mistake::{self, Mistake};
+use crate::open;
 use crate::rng::{Rng, Word};
 use crate::run::{Checked, Plan, Run};
 use crate::rust;
@@ -23,20 +25,23 @@ pub enum Call {
 }
 
 #[derive(Clone)]
-struct Query {
-    call: Call,
-    grid: Grid,
-    tiles: Vec<u8>,
-    x: usize,
-    y: usize,
+pub struct Query {
+    pub call: Call,
+    pub grid: Grid,
+    /// What a query for a pixel is lent. Beside a query for a row the skips from which its numbers come, if they do.
+    pub tiles: Vec<u8>,
+    /// What a query for a row is lent.
+    pub open_tiles: Vec<u16>,
+    pub x: usize,
+    pub y: usize,
     /// The value of the byte to be written before the call.
-    value: u8,
+    pub value: u8,
     /// The grid from which sizes and tiles were taken, if neither was changed since.
-    rust: Option<Rc<theirs::TileThresholdGrid>>,
+    pub rust: Option<Rc<theirs::TileThresholdGrid>>,
 }
 
 /// Returns the Rust's grid of a picture with these settings.
-fn built(src: &[u8], g: Geometry, config: TileThresholdConfig) -> theirs::TileThresholdGrid {
+pub fn built(src: &[u8], g: Geometry, config: TileThresholdConfig) -> theirs::TileThresholdGrid {
     let method = match config.method {
         TileThresholdMethod::Midrange => theirs::TileThresholdMethod::Midrange,
         TileThresholdMethod::Sauvola { k, dynamic_range } => theirs::TileThresholdMethod::Sauvola { k, dynamic_range },
@@ -72,32 +77,37 @@ impl Query {
             tiles_x: built.tiles_x(),
             tiles_y: built.tiles_y(),
         };
-        Self { call, grid, tiles, x: 0, y: 0, value: 0, rust: Some(Rc::new(built)) }
+        let open_tiles = if call == Call::RowAllSkip { open::of_rows(&built) } else { vec![] };
+        Self { call, grid, tiles, open_tiles, x: 0, y: 0, value: 0, rust: Some(Rc::new(built)) }
     }
 
     /// Returns the number or the value by document 01, in its order: sizes 7, buffer 10, place 9.
     fn decided(&self) -> Result<u8, u32> {
+        if document::bad_grid(self.grid) {
+            return Err(7);
+        }
         let Grid { width, height, tile_width, tile_height, tiles_x, tiles_y } = self.grid;
-        let sides = (1..=4096).contains(&width) && (1..=4096).contains(&height);
-        if !sides || tile_width == 0 || tile_height == 0 {
-            return Err(7);
-        }
-        if tiles_x != width.div_ceil(tile_width) || tiles_y != height.div_ceil(tile_height) {
-            return Err(7);
-        }
-        if self.tiles.len() < tiles_x * tiles_y {
+        let of_a_row = self.call == Call::RowAllSkip;
+        let short = if of_a_row { self.open_tiles.len() < tiles_y } else { self.tiles.len() < tiles_x * tiles_y };
+        if short {
             return Err(document::GRID_BUFFER_TOO_SMALL);
         }
-        let column_outside = self.call != Call::RowAllSkip && self.x >= width;
-        if column_outside || self.y >= height {
+        if (!of_a_row && self.x >= width) || self.y >= height {
             return Err(document::OUTSIDE);
         }
-        let row = &self.tiles[self.y / tile_height * tiles_x..][..tiles_x];
+        let (i, j) = (self.x / tile_width, self.y / tile_height);
         Ok(match self.call {
-            Call::ThresholdAt => row[self.x / tile_width],
-            Call::IsSkip => u8::from(row[self.x / tile_width] != 0),
-            Call::RowAllSkip => u8::from(row.iter().all(|&byte| byte != 0)),
+            Call::ThresholdAt => self.tiles[j * tiles_x + i],
+            Call::IsSkip => u8::from(self.tiles[j * tiles_x + i] != 0),
+            Call::RowAllSkip => u8::from(self.open_tiles[j] == 0),
         })
+    }
+
+    /// Looks at every tile of the row, if the skips are there.
+    fn looked_at(&self) -> Option<u8> {
+        let Grid { tile_height, tiles_x, .. } = self.grid;
+        let row = self.tiles.get(self.y / tile_height * tiles_x..)?.get(..tiles_x)?;
+        Some(u8::from(row.iter().all(|&byte| byte != 0)))
     }
 }
 
@@ -111,13 +121,15 @@ impl Case for Query {
     }
 
     fn ours(&self) -> Outcome {
-        let (tiles, mut value) = (Guarded::new(&self.tiles), self.value);
+        let (tiles, open_tiles) = (Guarded::new(&self.tiles), Guarded::new(&self.open_tiles));
+        let mut value = self.value;
         let number = match self.call {
             Call::ThresholdAt => flat::threshold_at(self.grid, &tiles, self.x, self.y, &mut value),
             Call::IsSkip => flat::is_skip(self.grid, &tiles, self.x, self.y, &mut value),
-            Call::RowAllSkip => flat::row_all_skip(self.grid, &tiles, self.y, &mut value),
+            Call::RowAllSkip => flat::row_all_skip(self.grid, &open_tiles, self.y, &mut value),
         };
-        Outcome { number, outs: vec![("value", u64::from(value))], lent: vec![Buffer::Bytes(tiles)] }
+        let lent = if self.call == Call::RowAllSkip { Buffer::U16s(open_tiles) } else { Buffer::Bytes(tiles) };
+        Outcome { number, outs: vec![("value", u64::from(value))], lent: vec![lent] }
     }
 
     fn expected(&self) -> Result<Expected<'_>, String> {
@@ -135,15 +147,22 @@ impl Case for Query {
                 return Err(format!("the Rust gives {asked}, document 01 {value}"));
             }
         }
-        let tiles = Left::Bytes(Cow::Borrowed(self.tiles.as_slice()));
-        Ok(Expected { number, outs: vec![("value", u64::from(value))], lent: vec![tiles] })
+        let mut lent = Left::Bytes(Cow::Borrowed(self.tiles.as_slice()));
+        if self.call == Call::RowAllSkip {
+            let looked_at = if number == 0 { self.looked_at() } else { None };
+            if let Some(looked_at) = looked_at.filter(|&looked_at| looked_at != value) {
+                return Err(format!("a look at every tile gives {looked_at}, the stored number {value}"));
+            }
+            lent = Left::U16s(Cow::Borrowed(self.open_tiles.as_slice()));
+        }
+        Ok(Expected { number, outs: vec![("value", u64::from(value))], lent: vec![lent] })
     }
 
     fn safe(&self, expected: &Expected<'_>) -> Result<(), String> {
         let answer = match self.call {
             Call::ThresholdAt => ours::threshold_at(self.grid, &self.tiles, self.x, self.y).map(u64::from),
             Call::IsSkip => ours::is_skip(self.grid, &self.tiles, self.x, self.y).map(u64::from),
-            Call::RowAllSkip => ours::row_all_skip(self.grid, &self.tiles, self.y).map(u64::from),
+            Call::RowAllSkip => ours::row_all_skip(self.grid, &self.open_tiles, self.y).map(u64::from),
         };
         let want = match Refusal::from_number(expected.number) {
             None => Ok(expected.outs[0].1),
@@ -156,7 +175,13 @@ impl Case for Query {
     }
 
     fn places(&self) -> Places {
-        Places { source: Some((0, self.tiles.len() / 2)), ..Places::default() }
+        let of_a_row = self.call == Call::RowAllSkip;
+        let length = if of_a_row { self.open_tiles.len() } else { self.tiles.len() };
+        Places { source: Some((0, length / 2)), ..Places::default() }
+    }
+
+    fn mistaken(&self, mistake: Mistake, outcome: &mut Outcome) -> bool {
+        mistake::answer(mistake, self.grid, &self.open_tiles, self.y, outcome)
     }
 
     fn corners(&self) -> Vec<Corner> {
@@ -175,7 +200,8 @@ impl Case for Query {
     }
 
     fn tell(&self) -> String {
-        format!("{:?} at ({}, {}), {:?}, tiles {}", self.call, self.x, self.y, self.grid, listed(&self.tiles))
+        let Self { call, grid, tiles, open_tiles, x, y, .. } = self;
+        format!("{call:?} at ({x}, {y}), {grid:?}, tiles {}, open tiles {}", listed(tiles), listed(open_tiles))
     }
 }
 
@@ -185,6 +211,9 @@ pub fn random(run: &mut Run, rng: &mut Rng, call: Call) -> Checked {
     let config = settings(rng, width, height);
     let mut case = Query::new(call, &src, g, config, || rng.byte().max(1));
     case.tiles.extend((0..rng.below(3) * 4).map(|_| rng.byte()));
+    if call == Call::RowAllSkip {
+        more_numbers(rng, &mut case);
+    }
     let place = |rng: &mut Rng, side: usize| match rng.below(10) {
         0 => side,
         1 => side - 1,
@@ -194,7 +223,7 @@ pub fn random(run: &mut Run, rng: &mut Rng, call: Call) -> Checked {
     (case.x, case.y) = (place(rng, width), place(rng, height));
     if rng.one_in(5) {
         let asked = case.grid;
-        let (grid, tiles) = (&mut case.grid, &mut case.tiles);
+        let (grid, tiles, open_tiles) = (&mut case.grid, &mut case.tiles, &mut case.open_tiles);
         match rng.below(9) {
             0 => grid.width = rng.pick(&EDGES),
             1 => grid.height = rng.pick(&EDGES),
@@ -204,12 +233,25 @@ pub fn random(run: &mut Run, rng: &mut Rng, call: Call) -> Checked {
             5 => grid.tiles_y = grid.tiles_y.wrapping_add(rng.below(3)).wrapping_sub(1),
             // As many tiles, with rows and columns exchanged.
             6 => (grid.tiles_x, grid.tiles_y) = (grid.tiles_y, grid.tiles_x),
+            _ if call == Call::RowAllSkip => open_tiles.truncate(rng.below(open_tiles.len())),
             _ => tiles.truncate(rng.below(tiles.len())),
         }
         case.rust = case.rust.filter(|_| case.grid == asked);
     }
     case.value = rng.byte();
     run.case(&case)
+}
+
+/// Lends numbers past the tile rows, and now and then numbers that the skips do not have.
+fn more_numbers(rng: &mut Rng, case: &mut Query) {
+    let extra = rng.below(3) * 2;
+    case.open_tiles.extend((0..extra).map(|_| rng.next() as u16));
+    if rng.one_in(3) {
+        let tiles_x = case.grid.tiles_x as u16;
+        let numbers = [0, 1, tiles_x, tiles_x + 1, u16::MAX, rng.next() as u16];
+        case.open_tiles.iter_mut().for_each(|number| *number = rng.pick(&numbers));
+        (case.tiles, case.rust) = (vec![], None);
+    }
 }
 
 /// Runs grids at the corners, of small pictures and of the largest.

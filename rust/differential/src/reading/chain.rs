@@ -1,21 +1,17 @@
-//! Compares `reading` with a chain of the Rust's own calls: division, opening, grid and threshold, one after the other.
+//! A reading by a chain of the Rust's own calls: division, opening, grid and threshold, one after the other.
 
-use super::shrink;
-use crate::case::{listed, Buffer, Case, Expected, Left, Outcome, Outs, Places};
-use crate::corner::{self, Corner, LARGEST_OFFSET, LARGEST_RADIUS};
+use crate::corner::{LARGEST_OFFSET, LARGEST_RADIUS};
 use crate::document;
-use crate::guard::Guarded;
-use crate::layouts::needed;
+use crate::open;
 use crate::plain;
 use crate::rng::{Rng, Word};
 use crate::rust;
 use imgproc::grid::{TileThresholdConfig, TileThresholdMethod};
-use imgproc::reading::{self as ours, flat, ReadingConfig, ReadingCounts};
-use imgproc::{Geometry, Refusal};
+use imgproc::reading::ReadingConfig;
+use imgproc::Geometry;
 use qr_lab_imgproc::illumination::{background_divide_into, BackgroundDivideConfig, IlluminationWorkspace};
 use qr_lab_imgproc::morphology::{grayscale_open_into, MorphologyWorkspace};
 use qr_lab_imgproc::threshold::{self as theirs, sauvola_into, SauvolaConfig, ThresholdWorkspace, TileThresholdGrid};
-use std::borrow::Cow;
 
 #[derive(Clone)]
 pub struct Reading {
@@ -28,24 +24,21 @@ pub struct Reading {
     pub method: u32,
     pub k: f64,
     pub dynamic_range: f64,
-    /// The lengths of the two workspaces.
+    /// The lengths of the two workspaces, and of the count buffer.
     pub bytes: usize,
     pub u64s: usize,
+    pub open_tiles: usize,
     pub seed: u64,
 }
 
-/// The result of the chain: its counts, and the packed rows.
-struct Chained {
-    dark: u64,
-    light: u64,
-    skipped: u64,
-    marked: Vec<u8>,
-}
-
-/// Names the four numbers that a reading gives.
-fn named(counts: ReadingCounts) -> Outs {
-    let ReadingCounts { dark, light, skipped, comparisons } = counts;
-    vec![("dark", dark), ("light", light), ("skipped", skipped), ("comparisons", comparisons)]
+/// The result of the chain: its counts, the packed rows, and the grid. The flattened picture, for a mistake.
+pub struct Chained {
+    pub dark: u64,
+    pub light: u64,
+    pub skipped: u64,
+    pub marked: Vec<u8>,
+    pub grid: TileThresholdGrid,
+    pub flat: Vec<u8>,
 }
 
 /// Returns the number of tiles of a picture, by document 01's ceilings; tile sides are not 0.
@@ -74,8 +67,9 @@ impl Reading {
             TileThresholdMethod::Sauvola { k, dynamic_range } => (1, k, dynamic_range),
         };
         let (bytes, u64s) = room(src.1.width, src.1.height, &config.grid);
+        let open_tiles = src.1.height.div_ceil(config.grid.tile_height);
         let ((src, s), (dst, d)) = (src, dst);
-        Self { src, s, dst, d, config, method, k, dynamic_range, bytes, u64s, seed }
+        Self { src, s, dst, d, config, method, k, dynamic_range, bytes, u64s, open_tiles, seed }
     }
 
     fn division(&self) -> BackgroundDivideConfig {
@@ -120,7 +114,7 @@ impl Reading {
 
     /// Returns the expected number, or else what the Rust's calls leave. Document 01 puts the layouts and the sizes
     /// first and the workspaces last; the settings between them come in the order of the calls.
-    fn decided(&self) -> Result<Chained, u32> {
+    pub fn decided(&self) -> Result<Chained, u32> {
         let src = rust::view(&self.src, self.s)?;
         let mut copy = self.dst.clone();
         rust::view_mut(&mut copy, self.d)?;
@@ -146,11 +140,14 @@ impl Reading {
         if self.bytes < bytes || self.u64s < u64s {
             return Err(document::WORKSPACE_TOO_SMALL);
         }
-        let mut chained = Chained { dark: 0, light: 0, skipped: 0, marked: Vec::with_capacity(g.area()) };
+        if self.open_tiles < grid.tiles_y() {
+            return Err(document::GRID_BUFFER_TOO_SMALL);
+        }
+        let mut chained = Chained { dark: 0, light: 0, skipped: 0, marked: Vec::with_capacity(g.area()), grid, flat };
         let values = self.config.sauvola;
         for y in 0..g.height {
             for x in 0..g.width {
-                let (count, value) = if grid.is_skip(x, y) {
+                let (count, value) = if chained.grid.is_skip(x, y) {
                     (&mut chained.skipped, values.light_value)
                 } else if darkness[y * g.width + x] == 1 {
                     (&mut chained.dark, values.dark_value)
@@ -164,8 +161,15 @@ impl Reading {
         Ok(chained)
     }
 
+    /// Returns the open tiles of each tile row of another packed picture of these sides.
+    pub fn open_tiles_of(&self, pixels: &[u8]) -> Result<Vec<u16>, u32> {
+        let view = rust::view(pixels, Geometry::packed(self.s.width, self.s.height))?;
+        let grid = TileThresholdGrid::build(view, self.grid()?).map_err(rust::imgproc)?;
+        Ok(open::of_rows(&grid))
+    }
+
     /// Returns the expected destination: these rows, and every other byte as it was.
-    fn painted(&self, marked: &[u8]) -> Vec<u8> {
+    pub fn painted(&self, marked: &[u8]) -> Vec<u8> {
         let mut painted = self.dst.clone();
         for (y, row) in marked.chunks(self.d.width).enumerate() {
             painted[y * self.d.stride..][..self.d.width].copy_from_slice(row);
@@ -174,142 +178,14 @@ impl Reading {
     }
 
     /// Returns the comparisons of two passes with the element and two with the opening's kernel.
-    fn comparisons(&self) -> Result<u64, String> {
+    pub fn comparisons(&self) -> Result<u64, String> {
         let (w, h) = (self.s.width, self.s.height);
         let closing = plain::comparisons(w, h, self.config.division.structuring_element, 2)?;
         Ok(closing + plain::comparisons(w, h, self.config.opening_kernel, 2)?)
     }
 
-    fn noise(&self) -> [u64; 6] {
+    pub fn noise(&self) -> [u64; 7] {
         let mut rng = Rng::new(self.seed);
-        [(); 6].map(|()| rng.next())
-    }
-}
-
-impl Case for Reading {
-    fn name(&self) -> &'static str {
-        "reading"
-    }
-
-    fn ours(&self) -> Outcome {
-        let [a, b, dark, light, skipped, comparisons] = self.noise();
-        let src = Guarded::new(&self.src);
-        let mut dst = Guarded::new(&self.dst);
-        let mut bytes = Guarded::new(&u8::noise(self.bytes, a));
-        let mut u64s = Guarded::new(&u64::noise(self.u64s, b));
-        let mut counts = ReadingCounts { dark, light, skipped, comparisons };
-        let number = flat::reading(
-            &src,
-            self.s,
-            &mut dst,
-            self.d,
-            &self.config,
-            self.method,
-            self.k,
-            self.dynamic_range,
-            &mut bytes,
-            &mut u64s,
-            &mut counts,
-        );
-        Outcome {
-            number,
-            outs: named(counts),
-            lent: vec![Buffer::Bytes(src), Buffer::Bytes(dst), Buffer::Bytes(bytes), Buffer::U64s(u64s)],
-        }
-    }
-
-    fn expected(&self) -> Result<Expected<'_>, String> {
-        let [a, b, dark, light, skipped, comparisons] = self.noise();
-        let src = Left::Bytes(Cow::Borrowed(self.src.as_slice()));
-        Ok(match self.decided() {
-            Err(number) => {
-                let dst = Left::Bytes(Cow::Borrowed(self.dst.as_slice()));
-                let outs = named(ReadingCounts { dark, light, skipped, comparisons });
-                Expected { number, outs, lent: vec![src, dst, Left::Noise(a), Left::Noise(b)] }
-            }
-            Ok(chained) => {
-                let dst = Left::Bytes(Cow::Owned(self.painted(&chained.marked)));
-                let Chained { dark, light, skipped, .. } = chained;
-                let outs = named(ReadingCounts { dark, light, skipped, comparisons: self.comparisons()? });
-                Expected { number: 0, outs, lent: vec![src, dst, Left::Open, Left::Open] }
-            }
-        })
-    }
-
-    fn safe(&self, expected: &Expected<'_>) -> Result<(), String> {
-        if self.src.len() + self.dst.len() > 2048 {
-            return Ok(());
-        }
-        let method = match self.method {
-            0 => TileThresholdMethod::Midrange,
-            1 => TileThresholdMethod::Sauvola { k: self.k, dynamic_range: self.dynamic_range },
-            _ => return Ok(()),
-        };
-        let config = ReadingConfig { grid: TileThresholdConfig { method, ..self.config.grid }, ..self.config };
-        let mut dst = self.dst.clone();
-        let (mut bytes, mut u64s) = (vec![0; self.bytes], vec![0; self.u64s]);
-        let answer = ours::reading(&self.src, self.s, &mut dst, self.d, &config, &mut bytes, &mut u64s).map(named);
-        let want = match Refusal::from_number(expected.number) {
-            None => Ok(expected.outs.clone()),
-            Some(refusal) => Err(refusal),
-        };
-        let painted = matches!(&expected.lent[1], Left::Bytes(bytes) if bytes.as_ref() == dst.as_slice());
-        if answer != want || !painted {
-            return Err(format!("the safe call answers {answer:?} where {want:?} is expected, or writes otherwise"));
-        }
-        let grid = &self.config.grid;
-        let told =
-            (ours::bytes_len(self.s.width, self.s.height, grid), ours::u64s_len(self.s.width, self.s.height, grid));
-        if answer.is_ok() && told != room(self.s.width, self.s.height, grid) {
-            return Err(format!("the workspaces are told as {told:?}"));
-        }
-        Ok(())
-    }
-
-    fn places(&self) -> Places {
-        if document::layout(self.dst.len(), self.d) != 0 {
-            return Places::default();
-        }
-        let last = (self.d.height - 1).wrapping_mul(self.d.stride) + self.d.width - 1;
-        let padded = self.d.stride > self.d.width && self.d.height > 1;
-        let tail = self.dst.len() > needed(self.d);
-        Places {
-            written: Some((1, last)),
-            beside: if padded { Some((1, self.d.width)) } else { tail.then(|| (1, self.dst.len() - 1)) },
-            source: Some((0, self.src.len() / 2)),
-        }
-    }
-
-    fn corners(&self) -> Vec<Corner> {
-        let (Geometry { width, height, .. }, config) = (self.s, &self.config);
-        [
-            corner::picture(width, height),
-            corner::element(config.division.structuring_element, width, height),
-            corner::kernel(config.opening_kernel, width, height),
-            corner::grid(&config.grid, width, height),
-            corner::radius(config.sauvola.radius),
-        ]
-        .concat()
-    }
-
-    fn smaller(&self) -> Vec<Self> {
-        shrink::smaller(self)
-    }
-
-    fn tell(&self) -> String {
-        format!(
-            "{:?}, method {}, k {:?}, range {:?}\nsource {:?}, {}\ndestination {:?}, {}\nbytes {}, u64s {}, seed {}",
-            self.config,
-            self.method,
-            self.k,
-            self.dynamic_range,
-            self.s,
-            listed(&self.src),
-            self.d,
-            listed(&self.dst),
-            self.bytes,
-            self.u64s,
-            self.seed
-        )
+        [(); 7].map(|()| rng.next())
     }
 }

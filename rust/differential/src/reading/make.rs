@@ -86,6 +86,7 @@ pub fn random(run: &mut Run, rng: &mut Rng) -> Checked {
     if rng.one_in(3) {
         case.bytes += rng.below(40);
         case.u64s += rng.below(40);
+        case.open_tiles += rng.below(9);
     }
     let (bytes, u64s) = room(width, height, &config.grid);
     match rng.below(24) {
@@ -100,7 +101,9 @@ pub fn random(run: &mut Run, rng: &mut Rng) -> Checked {
         5 => case.u64s = u64s - 1,
         6 => case.bytes = rng.below(bytes),
         7 => case.u64s = rng.below(u64s),
-        8 => (case.bytes, case.u64s) = (rng.below(bytes), rng.below(u64s)),
+        8 => (case.bytes, case.u64s, case.open_tiles) = (rng.below(bytes), rng.below(u64s), 0),
+        9 => case.open_tiles = rng.below(case.open_tiles),
+        10 => case.open_tiles = height.div_ceil(config.grid.tile_height) - 1,
         _ => {}
     }
     patterns::mix(rng, &mut case.k, &mut case.dynamic_range);
