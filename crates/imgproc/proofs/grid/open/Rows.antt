@@ -17,6 +17,11 @@ counts : (b : Bool) → bool_byte b ≡ bit (not (not b))
 counts true = refl
 counts false = refl
 
+-- a byte counts once at most
+one_at_most : (b : Bool) → bool_byte b ≤ 1
+one_at_most true = omega arith
+one_at_most false = omega arith
+
 module _ (d : List ℕ) (at n : ℕ) (fits : at + n ≤ length d) where
   -- the bytes of the row
   abbrev row : List ℕ
@@ -34,12 +39,12 @@ module _ (d : List ℕ) (at n : ℕ) (fits : at + n ≤ length d) where
       ap₂ ◌+◌ e (f ∙ ap (λ (b : ℕ). bool_byte (eqb b 0)) here ∙ counts (eqb (get_or d (at + k) 0) 0))
       ∙ sym (walk_more (λ i. not (skipped d (at + i))) k)
 
-  -- no number is above the row's length
-  pub counted_few : (k : ℕ) {c r : ℕ} → k < length row → c ≡ walk (λ i. not (skipped d (at + i))) k
-      → r ≡ bool_byte (eqb (get_or row k 0) 0)
+  -- no number is above the row's length, whatever is asked of the byte at hand
+  pub counted_few : (k : ℕ) {c r : ℕ} (b : Bool) → k < length row → c ≡ walk (λ i. not (skipped d (at + i))) k
+      → r ≡ bool_byte b
       → c + r ≤ n
-  counted_few k K e f =
-      omega (arith, row_long, counted k K e f, walk_le (λ i. not (skipped d (at + i))) (k + 1))
+  counted_few k b K e f =
+      omega (arith, row_long, e, f, one_at_most b, walk_le (λ i. not (skipped d (at + i))) k)
 
   -- all of it
   pub counted_all : (k : ℕ) {c : ℕ} → k ≤ length row → length row ≤ k

@@ -12,7 +12,7 @@ pub overflow_add-open : goal.overflow_add-open
 overflow_add-open c =
     let a = c.args in
     let few =
-    counted_few a.skips.now (a.j * a.tiles_x) a.tiles_x c.requires.0 c.loop-skip.skip-index c.loop-skip-test.true
+    counted_few a.skips.now (a.j * a.tiles_x) a.tiles_x c.requires.0 c.loop-skip.skip-index _ c.loop-skip-test.true
     c.loop-skip.invariant c.from-open.ensures in
     omega (arith, few, c.requires.1)
 
