@@ -7,8 +7,8 @@ form of the must-fail edits, and a line that says what refuses them:
   passes                        the crate compiles and no rule is broken; its proofs are not tried
 
 The tool applies each edit by itself in a copy of the repository, several at a time, below $FRAUDS_COPY or in a temporary folder. It
-reads the code of the functions that the edit changes, and of all others as it stands. An edit fails if it does not apply, or if
-something else refuses it, or nothing."""
+reads the code of the functions that the edit changes, or that name a constant whose value it changes, and of all others as it stands.
+An edit fails if it does not apply, or if something else refuses it, or nothing."""
 import concurrent.futures
 import os
 import pathlib
@@ -70,17 +70,33 @@ def pieces(text):
     return found, ' '.join((outside + text[at:]).split())
 
 
+def constants(old, new):
+    """Returns the constants of other values in the text outside of functions, or None if this text differs by more than values."""
+    form = r'\bconst (\w+)(: \w+ = )([^;]*);'
+    if re.sub(form, r'const \1\2;', old) != re.sub(form, r'const \1\2;', new):
+        return None
+    return {was[0] for was, now in zip(re.findall(form, old), re.findall(form, new)) if was != now}
+
+
 def touched(root, crate, texts):
-    """Returns the functions whose text the edit changes, by their paths in the crate, or none if it changes what stands outside of
-    them: then any function may be another."""
+    """Returns the functions that the edit changes, by their paths in the crate: those whose text is another, and those that name a
+    constant whose value is another, if nothing outside of functions names it. It returns none if the edit changes more outside of
+    functions: then any function may be another."""
+    top = pathlib.Path(root) / 'crates' / crate
+    files = {str(path.relative_to(top)): copies.read(path) for path in top.glob('src/**/*.rt')}
+    old = {file: pieces(text) for file, text in files.items()}
+    new = {file: pieces(text) for file, text in {**files, **texts}.items() if file.startswith('src/')}
+    changed = [constants(old[file][1], new[file][1]) if file in old else None for file in new]
+    if None in changed:
+        return []
+    naming = re.compile('|'.join(rf'\b{name}\b' for name in set().union(*changed)) or r'(?!)')
+    if sum(len(naming.findall(outside)) for _, outside in new.values()) > sum(map(len, changed)):
+        return []
     names = []
-    for file, text in texts.items():
-        old, outside = pieces(copies.read(os.path.join(root, 'crates', crate, file)))
-        new, outside_now = pieces(text)
-        if outside != outside_now:
-            return []
+    for file, (functions, _) in new.items():
         module = re.sub(r'^src/|\.rt$', '', file).replace('/', '::')
-        names += [name if module in ('lib', 'main') else f'{module}::{name}' for name in new if new[name] != old.get(name)]
+        own = [name for name, text in functions.items() if text != old[file][0].get(name) or naming.search(text)]
+        names += [name if module in ('lib', 'main') else f'{module}::{name}' for name in own]
     return names
 
 
