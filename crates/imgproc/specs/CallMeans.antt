@@ -5,7 +5,7 @@ use Rattle.std.specs.Prelude.{Ok}
 use Rattle.std.specs.Prelude.{ℕ, ◌<◌, ◌≡◌, List, length}
 use Rattle.std.proofs.Common.{arith, sym, ap, ◌∙◌}
 use Rattle.image.specs.Answers.{accepted}
-use Rattle.image.specs.Plane.{pixel, picture}
+use Rattle.image.specs.Plane.{pixel, packed, picture}
 use Rattle.image.specs.Views.{painted_on_pixel}
 use Rattle.imgproc.specs.Refusals.{Conditions, first, pair_conditions}
 use Rattle.imgproc.specs.RefusalLaws.{both_accepted, taken, pair_says}
@@ -69,14 +69,20 @@ module _ {S A : Type 0} {operator : Operator S A} (a : AcceptedCall operator) wh
       ∙ ap (λ (n : ℕ). pixel made n x y) (sym p.wide)
 
 -- two accepted calls with the same settings and sides, where each pixel of the second one's source is that of the first
--- one's, mapped; strides, padding, destinations and workspaces may differ
-pub record MappedSource {S A : Type 0} {operator : Operator S A} (f : ℕ → ℕ) (a b : AcceptedCall operator)
-    : Type 0 where
+-- one's, mapped; they may be of different operators, and strides, padding, destinations and workspaces may differ
+pub record MappedSource {S A B : Type 0} {o : Operator S A} {p : Operator S B}
+    (f : ℕ → ℕ) (a : AcceptedCall o) (b : AcceptedCall p) : Type 0 where
   pub settings : settings_of b ≡ settings_of a
   pub as_wide : wide b ≡ wide a
   pub as_high : high b ≡ high a
   pub pixels : (x y : ℕ) → x < wide a → y < high a → source_pixel b x y ≡ f (source_pixel a x y)
 
 -- each pixel that the second left is that which the first left, mapped
-abbrev pub MappedRows : {S A : Type 0} {operator : Operator S A} → (ℕ → ℕ) → (a b : AcceptedCall operator) → Type 0
+abbrev pub MappedRows : {S A B : Type 0} {o : Operator S A} {p : Operator S B} → (ℕ → ℕ)
+    → (a : AcceptedCall o) (b : AcceptedCall p) → Type 0
 MappedRows f a b = (x y : ℕ) → x < wide a → y < high a → left_pixel b x y ≡ f (left_pixel a x y)
+
+-- equal settings and sides make the same of a picture
+pub made_same : {S : Type 0} (make : S → ℕ → ℕ → List ℕ → List ℕ) (d : List ℕ) (stride : ℕ) {k k' : S} {w w' h h' : ℕ}
+    → k ≡ k' → w ≡ w' → h ≡ h' → make k w h (packed d w h stride) ≡ make k' w' h' (packed d w' h' stride)
+made_same make d stride K W H = rw (K, W, H)

@@ -16,6 +16,7 @@ pub mod GridCalls
 pub mod Blanking
 pub mod WholeRoot
 pub mod Sauvola
+pub mod SauvolaNarrow
 pub mod Reading
 -- Laws about it: what each definition comes to, what follows from each contract, and document 01's pictures.
 pub mod RefusalLaws
@@ -36,6 +37,8 @@ pub mod GridMeans
 pub mod OpenLaws
 pub mod BlankingLaws
 pub mod SauvolaLaws
+pub mod SauvolaNarrowLaws
+pub mod SauvolaNarrowMeans
 pub mod ReadingLaws
 pub mod ReadingMeans
 pub mod ReadingLeaves

@@ -24,6 +24,7 @@ use Rattle.imgproc.specs.CallMeans.{
   pair,
   own_accepted,
   pixel_made,
+  made_same,
   MappedSource,
   MappedRows,
 }
@@ -76,11 +77,6 @@ closing_over a =
 
 -- ---- maps and cuts
 
--- equals for equals
-made_same : (operation : Operation) (d : List ℕ) (stride : ℕ) {k k' w w' h h' : ℕ} → k ≡ k' → w ≡ w' → h ≡ h'
-    → operated operation k w h (packed d w h stride) ≡ operated operation k' w' h' (packed d w' h' stride)
-made_same operation d stride K W H = rw (K, W, H)
-
 module _ (operation : Operation) (f : ℕ → ℕ) (monotone : Monotone f) (a b : AcceptedCall (morphology operation))
     (maps : MappedSource f a b) where
   -- the picture that the first makes
@@ -102,7 +98,7 @@ module _ (operation : Operation) (f : ℕ → ℕ) (monotone : Monotone f) (a b 
   -- the second makes the same, mapped
   mapped_made : operated operation (settings_of b) (wide b) (high b) (source_of b) ≡ map f made
   mapped_made =
-      made_same operation b.lent.src b.lent.source.stride maps.settings maps.as_wide maps.as_high
+      made_same (operated operation) b.lent.src b.lent.source.stride maps.settings maps.as_wide maps.as_high
       ∙ ap (operated operation (settings_of a) (wide a) (high a)) mapped_source
       ∙ operated_commutes f monotone (settings_of a) (wide a) (high a)
       (omega (arith, kernel_says (settings_of a) (kernel_fine operation a))) operation (source_of a) long

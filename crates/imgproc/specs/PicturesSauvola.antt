@@ -2,8 +2,9 @@
 -- in Pictures. Definitions only.
 use Rattle.std.specs.Prelude.{List, [], ◌∷◌, ℕ, replicate}
 use Rattle.image.specs.Plane.{plane, picture, painted_on}
-use Rattle.imgproc.specs.declared.threshold.SauvolaConfig.{SauvolaConfig}
+use Rattle.imgproc.specs.declared.threshold.config.SauvolaConfig.{SauvolaConfig}
 use Rattle.imgproc.specs.Sauvola.{sauvola_defaults, threshold_at_pixel, binarized}
+use Rattle.imgproc.specs.SauvolaNarrow.{largest_window}
 use Rattle.imgproc.specs.Cases.{Case, ◌gives◌, geometry}
 
 -- the thresholds of the pixels of a packed picture
@@ -55,4 +56,12 @@ sauvola_pictures =
     1 ∷ 1 ∷ 1 ∷ 1 ∷
     1 ∷
     []) ∷
+    -- the largest windows of the narrow call: exactly its limit, one pixel more, and both axes clipped; neither axis and
+    -- one axis clipped, on both sides of the limit; a radius of 2^64 - 1
+    (largest_window 184 369 179 ∷ largest_window 168 196 337 ∷ largest_window 200 257 257 ∷ [] gives
+    66051 ∷ 66052 ∷ 66049 ∷ []) ∷
+    (largest_window 16 4096 2001 ∷ largest_window 1000 4096 33 ∷ largest_window 1000 34 4096 ∷ [] gives
+    1089 ∷ 66033 ∷ 68034 ∷ []) ∷
+    (largest_window 18446744073709551615 1 1 ∷ largest_window 18446744073709551615 4096 4096 ∷ [] gives
+    1 ∷ 16777216 ∷ []) ∷
     []

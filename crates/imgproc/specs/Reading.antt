@@ -11,7 +11,7 @@ use Rattle.imgproc.specs.declared.ImgProcError.{ImgProcError}
 use Rattle.std.specs.Prelude.{Result, Ok, Err}
 use Rattle.imgproc.specs.declared.grid.config.TileThresholdConfig.{TileThresholdConfig}
 use Rattle.imgproc.specs.declared.ImgProcError.TheVariants.{InvalidKernel, WorkspaceTooSmall, GridBufferTooSmall}
-use Rattle.imgproc.specs.declared.threshold.SauvolaConfig.{SauvolaConfig}
+use Rattle.imgproc.specs.declared.threshold.config.SauvolaConfig.{SauvolaConfig}
 use Rattle.imgproc.specs.Reach.{R, walk}
 use Rattle.imgproc.specs.Morphology.{swept_rect, opened}
 use Rattle.imgproc.specs.Division.{divided}

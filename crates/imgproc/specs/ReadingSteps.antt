@@ -13,7 +13,7 @@ use Rattle.imgproc.specs.Fold.{bit}
 use Rattle.imgproc.specs.Reach.{walk, sweep_walks}
 use Rattle.imgproc.specs.Grid.{tiles_x_of, tiles_y_of, skips, open_tiles}
 use Rattle.imgproc.specs.Refusals.{table_entries}
-use Rattle.imgproc.specs.Tables.{InRange, Tables}
+use Rattle.imgproc.specs.Tables.{InRange, wide_modulus, Tables}
 use Rattle.imgproc.specs.Calls.{Paired}
 use Rattle.imgproc.specs.Reading.{
   is_dark,
@@ -36,7 +36,7 @@ use Rattle.imgproc.specs.Reading.{
 -- what a `Judge` goes by: the opened picture is packed, its tables and its tiles' skips stand in their slices, and the
 -- settings are accepted
 pub record JudgeReady (o : List ℕ) (g : Geometry) (sk ws : List ℕ) (at : ℕ) (s : ReadingConfig) : Type 0 where
-  pub tables : Tables o g at ws
+  pub tables : Tables wide_modulus o g at ws
   pub settings : InRange s.sauvola
   pub tight : g.stride ≡ g.width
   pub whole : length o ≡ g.width * g.height

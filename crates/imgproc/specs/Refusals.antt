@@ -7,7 +7,7 @@ use Rattle.image.specs.declared.LumaError.{LumaError}
 use Rattle.image.specs.Answers.{Answer, accepted, refused, Condition}
 use Rattle.image.specs.Layout.{layout_conditions, number_of}
 use Rattle.imgproc.specs.declared.illumination.BackgroundDivideConfig.{BackgroundDivideConfig}
-use Rattle.imgproc.specs.declared.threshold.SauvolaConfig.{SauvolaConfig}
+use Rattle.imgproc.specs.declared.threshold.config.SauvolaConfig.{SauvolaConfig}
 use Rattle.imgproc.specs.declared.ImgProcError.{ImgProcError}
 use Rattle.imgproc.specs.declared.ImgProcError.TheVariants.{
   Image,
@@ -16,6 +16,7 @@ use Rattle.imgproc.specs.declared.ImgProcError.TheVariants.{
   InvalidConfiguration,
   WorkspaceTooSmall,
   GridBufferTooSmall,
+  WindowTooLarge,
 }
 
 -- the number of each refusal
@@ -26,6 +27,7 @@ error_number InvalidKernel = 6
 error_number InvalidConfiguration = 7
 error_number WorkspaceTooSmall = 8
 error_number GridBufferTooSmall = 10
+error_number WindowTooLarge = 12
 
 -- ---- lists of conditions
 
@@ -119,8 +121,10 @@ sauvola_settings config =
 abbrev pub table_entries : ℕ → ℕ → ℕ
 table_entries w h = 2 * ((w + 1) * (h + 1))
 
--- Sauvola: the settings; a u64 workspace under 2(w + 1)(h + 1) is 8
+-- a workspace under 2(w + 1)(h + 1) is 8
+abbrev pub tables_room : Geometry → ℕ → Conditions
+tables_room g room = refused_if (ltb room (table_entries g.width g.height)) WorkspaceTooSmall
+
+-- Sauvola: the settings; the u64 workspace
 abbrev pub settings_and_room : SauvolaConfig → Geometry → ℕ → Conditions
-settings_and_room config g room =
-    sauvola_settings config then
-    refused_if (ltb room (table_entries g.width g.height)) WorkspaceTooSmall
+settings_and_room config g room = sauvola_settings config then tables_room g room

@@ -3,7 +3,7 @@
 use Rattle.std.specs.Prelude.{ℕ, ◌+◌, ◌-◌, ◌*◌, ◌/◌, Bool, cond, List, leb}
 use Rattle.image.specs.Answers.{Bare, bare}
 use Rattle.image.specs.Plane.{pixel, plane}
-use Rattle.imgproc.specs.declared.threshold.SauvolaConfig.{SauvolaConfig}
+use Rattle.imgproc.specs.declared.threshold.config.SauvolaConfig.{SauvolaConfig}
 use Rattle.imgproc.specs.Fold.{Box, fold_box}
 use Rattle.imgproc.specs.Reach.{low, high}
 use Rattle.imgproc.specs.Sums.{sum, sum_squares, count}

@@ -1,12 +1,12 @@
--- Laws of part 6: a window holds just the pixels within the radius, no subtraction is cut off, and the spread is the
--- largest number whose square is at most the variance. Assumes nothing.
+-- Laws of part 6: a window holds just the pixels within the radius, and its sums keep to bounds; no subtraction is cut
+-- off; and the spread is the largest number whose square is at most the variance. Assumes nothing.
 use Rattle.std.specs.Prelude.{ℕ, ◌+◌, ◌-◌, ◌*◌, ◌/◌, ◌≤◌, ◌<◌, ◌↔◌}
 use Rattle.std.proofs.Common.{mul-pos, mul-le-mul, arith, sym, subst}
 use Rattle.image.specs.Layout.{side_limit}
-use Rattle.imgproc.specs.Fold.{Box}
+use Rattle.imgproc.specs.Fold.{Box, fold_box}
 use Rattle.imgproc.specs.Extremes.{Near, Inside, Some}
 use Rattle.imgproc.specs.Sums.{sum, sum_squares, count, squared}
-use Rattle.imgproc.specs.SumLaws.{fold_box_sum, count_is, mean_square}
+use Rattle.imgproc.specs.SumLaws.{box_le, fold_box_sum, count_is, mean_square}
 use Rattle.imgproc.specs.WholeRoot.{IsRoot, whole_root_is}
 use Rattle.imgproc.specs.Tables.{entries_limit}
 use Rattle.imgproc.specs.Sauvola.{window, mean, variance, spread}
@@ -23,6 +23,24 @@ module _ (r w h x y : ℕ) (X : x < w) (Y : y < h) where
   -- it has a pixel
   pub window_some : Some (window r w h x y)
   window_some = record { across = omega arith; down = omega arith }
+
+  -- the sum over it of numbers of at most `most` each
+  pub window_sum_le : (e : ℕ → ℕ → ℕ) (most : ℕ) → ((i j : ℕ) → i < w → j < h → e i j ≤ most)
+      → fold_box ◌+◌ e (window r w h x y) ≤ count (window r w h x y) * most
+  window_sum_le e most le =
+      let b = window r w h x y in
+      let m = b.right + 1 - b.left in
+      let n = b.bottom + 1 - b.top in
+      rw (fold_box_sum e b window_some, count_is b window_some)
+      (omega (
+        arith,
+        box_le (λ i j. e (b.left + i) (b.top + j)) most m n (λ i j l k. le _ _ (omega arith) (omega arith)),
+      ))
+
+  -- and of the squares of bytes
+  pub squares_le : (f : ℕ → ℕ → ℕ) → ((i j : ℕ) → i < w → j < h → f i j ≤ 255)
+      → sum_squares f (window r w h x y) ≤ count (window r w h x y) * 65025
+  squares_le f bytes = window_sum_le (squared f) 65025 (λ i j l m. mul-le-mul (bytes i j l m) (bytes i j l m))
 
 -- a box that has a pixel counts one at least
 pub count_some : (b : Box) → Some b → 0 < count b

@@ -1,7 +1,8 @@
--- Sums of pixels: a fold by + is a sum, sums of boxes side by side, and the mean of squares against the square of the
--- mean. Assumes nothing.
-use Prim.Native.Nat.{ℕ, zero, suc, ◌+◌, ◌-◌, ◌*◌, ◌/◌, ◌≤◌, ◌<◌}
+-- Sums of pixels: a fold by + is a sum, sums of boxes side by side, the sum of a rectangle by four boxes, whole or modulo
+-- a number, and the mean of squares against the square of the mean. Assumes nothing.
+use Prim.Native.Nat.{ℕ, zero, suc, ◌+◌, ◌-◌, ◌*◌, ◌/◌, ◌%◌, ◌≤◌, ◌<◌}
 use Rattle.std.proofs.Math.Decide.{dec_le}
+use Rattle.std.proofs.Math.Nat.{mod-lt, mod-eq_of_lt, div-add-mod, add-mul-mod_self_left}
 use Rattle.std.proofs.Common.{add-sub_of_le, le_of_lt, lt_of_not-le, le-div_iff_mul-le, mul-le-mul_left, div-mul-le_self, mul_assoc, add-zero, add-suc, mul-suc, arith, add-one, ap, sym, ◌∙◌, subst}
 use Rattle.std.specs.Prelude.{◌≡◌}
 use Rattle.std.proofs.Math.Path.{refl}
@@ -72,6 +73,41 @@ corners f x y m n =
       sum_split (λ j. sum_to (λ i. f i j) x) y n,
       box_beside (λ i j. f i (y + j)) x m n,
     )
+
+-- two sums less two others, all taken modulo `modulus`, come to the difference if that is below it
+residues : (modulus a b c d r : ℕ) → a + b ≡ c + d + r → r < modulus
+    → (a % modulus + b % modulus + 2 * modulus - (c % modulus + d % modulus)) % modulus ≡ r
+residues modulus a b c d r h l =
+    let m = a % modulus + b % modulus + 2 * modulus - (c % modulus + d % modulus) in
+    let small : (n : ℕ) → n % modulus < modulus = λ n. mod-lt n (omega arith) in
+    let e : m + modulus * (a / modulus) + modulus * (b / modulus)
+    ≡ r + modulus * 2 + modulus * (c / modulus) + modulus * (d / modulus) =
+    omega (
+      arith,
+      h,
+      small c,
+      small d,
+      div-add-mod a modulus,
+      div-add-mod b modulus,
+      div-add-mod c modulus,
+      div-add-mod d modulus,
+    ) in
+    sym (add-mul-mod_self_left m modulus (a / modulus))
+    ∙ sym (add-mul-mod_self_left (m + modulus * (a / modulus)) modulus (b / modulus))
+    ∙ ap (λ (n : ℕ). n % modulus) e
+    ∙ add-mul-mod_self_left (r + modulus * 2 + modulus * (c / modulus)) modulus (d / modulus)
+    ∙ add-mul-mod_self_left (r + modulus * 2) modulus (c / modulus)
+    ∙ add-mul-mod_self_left r modulus 2
+    ∙ mod-eq_of_lt l
+
+-- the sum of a rectangle by the sums of these four boxes, all taken modulo `modulus`, if it is below that
+pub corners_modulo : (modulus : ℕ) (f : ℕ → ℕ → ℕ) (x y m n : ℕ) → rect_sum f x y m n < modulus
+    → (box_sum f (x + m) (y + n) % modulus + box_sum f x y % modulus + 2 * modulus
+    - (box_sum f x (y + n) % modulus + box_sum f (x + m) y % modulus)) % modulus
+    ≡ rect_sum f x y m n
+corners_modulo modulus f x y m n l =
+    residues modulus (box_sum f (x + m) (y + n)) (box_sum f x y) (box_sum f x (y + n)) (box_sum f (x + m) y)
+    (rect_sum f x y m n) (corners f x y m n) l
 
 -- ---- a fold by + is a sum
 

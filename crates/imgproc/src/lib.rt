@@ -25,6 +25,7 @@ pub enum ImgProcError {
     InvalidConfiguration,
     WorkspaceTooSmall,
     GridBufferTooSmall,
+    WindowTooLarge,
 }
 
 impl From<LumaError> for ImgProcError {
@@ -46,6 +47,7 @@ impl Refusal for ImgProcError {
             ImgProcError::InvalidConfiguration => 7,
             ImgProcError::WorkspaceTooSmall => 8,
             ImgProcError::GridBufferTooSmall => 10,
+            ImgProcError::WindowTooLarge => 12,
         }
     }
 }

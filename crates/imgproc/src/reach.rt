@@ -1,6 +1,7 @@
 // Document 01's low and high: the first and the last index within r of i in a line of n; and what lies between them on
 // both axes.
-ghost use Rattle.std.specs.Prelude.{◌≡◌, ◌<◌};
+ghost use Rattle.std.specs.Prelude.{◌≡◌, ◌+◌, ◌-◌, ◌*◌, ◌≤◌, ◌<◌};
+ghost use Rattle.image.specs.Layout.{side_limit};
 ghost use Rattle.imgproc.specs.Reach.{low, high};
 ghost use Rattle.imgproc.specs.Sauvola.{window};
 
@@ -42,5 +43,15 @@ impl Area {
             top: low(y, radius),
             bottom: high(y, radius, height),
         }
+    }
+
+    // Counts its places. Inlined first, so that LLVM shares the ends with the corners of a table.
+    #[inline(always)]
+    pub(crate) fn count(self) -> u64
+        requires { ((self.left ≤ self.right) × (self.right < side_limit))
+            × ((self.top ≤ self.bottom) × (self.bottom < side_limit)) }
+        ensures { result ≡ (self.right + 1 - self.left) * (self.bottom + 1 - self.top) }
+    {
+        ((self.right + 1 - self.left) * (self.bottom + 1 - self.top)) as u64
     }
 }

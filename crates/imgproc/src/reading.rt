@@ -163,7 +163,7 @@ pub(crate) fn check_settings(config: ReadingConfig) -> Result<(), ImgProcError>
         return Err(ImgProcError::InvalidKernel);
     }
     crate::grid::check_settings(config.grid)?;
-    crate::threshold::check_settings(config.sauvola)
+    crate::threshold::checks::check_settings(config.sauvola)
 }
 
 // Checks that both workspaces have room for a reading of the picture, and the count buffer a number for each tile row.

@@ -1,7 +1,7 @@
 -- Makes the settings of the operators' exports from flat numbers. Definitions only.
 use Rattle.std.specs.Prelude.{ℕ}
 use Rattle.imgproc.specs.declared.illumination.BackgroundDivideConfig.{BackgroundDivideConfig}
-use Rattle.imgproc.specs.declared.threshold.SauvolaConfig.{SauvolaConfig}
+use Rattle.imgproc.specs.declared.threshold.config.SauvolaConfig.{SauvolaConfig}
 
 -- the settings of a division: the element, the target and the floor
 abbrev pub division_from : ℕ → ℕ → ℕ → BackgroundDivideConfig

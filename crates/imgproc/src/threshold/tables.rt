@@ -2,7 +2,7 @@
 // squares, (w + 1)(h + 1) entries each. Entry (x, y) is the sum over the pixels left of x and above y.
 ghost use Rattle.std.specs.Prelude.{◌≡◌, ◌+◌, ◌≤◌, ◌<◌, length};
 ghost use Rattle.imgproc.specs.Refusals.{table_entries};
-ghost use Rattle.imgproc.specs.Tables.{TableRows, Tables, Corners, corner_sum};
+ghost use Rattle.imgproc.specs.Tables.{wide_modulus, TableRows, Tables, Corners, Unwrapped, corner_sum};
 
 use crate::reach::Area;
 use image::Gray8View;
@@ -10,7 +10,7 @@ use image::Gray8View;
 // Writes the row of zeros above the picture, in both tables.
 fn table_top(source: Gray8View<'_>, workspace: &mut [u64], at: usize)
     requires { at + table_entries source.geometry.width source.geometry.height ≤ length workspace.old }
-    ensures { TableRows source.entry.pixels.now source.entry.geometry at 1 workspace.new }
+    ensures { TableRows wide_modulus source.entry.pixels.now source.entry.geometry at 1 workspace.new }
 {
     let wide = source.geometry.width + 1;
     let squares = at + wide * (source.geometry.height + 1);
@@ -22,8 +22,9 @@ fn table_top(source: Gray8View<'_>, workspace: &mut [u64], at: usize)
 
 // Writes the row of both tables below row y of the picture: the entry above, and the row's sums so far.
 fn table_row(source: Gray8View<'_>, y: usize, workspace: &mut [u64], at: usize)
-    requires { (y < source.geometry.height) × TableRows source.pixels.now source.geometry at (y + 1) workspace.old }
-    ensures { TableRows source.entry.pixels.now source.entry.geometry at (y + 2) workspace.new }
+    requires { (y < source.geometry.height)
+        × TableRows wide_modulus source.pixels.now source.geometry at (y + 1) workspace.old }
+    ensures { TableRows wide_modulus source.entry.pixels.now source.entry.geometry at (y + 2) workspace.new }
 {
     let wide = source.geometry.width + 1;
     let squares = at + wide * (source.geometry.height + 1);
@@ -48,7 +49,7 @@ fn table_row(source: Gray8View<'_>, y: usize, workspace: &mut [u64], at: usize)
 // Builds both tables of a picture, from `at` on.
 pub(crate) fn build_tables(source: Gray8View<'_>, workspace: &mut [u64], at: usize)
     requires { at + table_entries source.geometry.width source.geometry.height ≤ length workspace.old }
-    ensures { Tables source.entry.pixels.now source.entry.geometry at workspace.new }
+    ensures { Tables wide_modulus source.entry.pixels.now source.entry.geometry at workspace.new }
 {
     table_top(source, workspace, at);
     for y in 0..source.geometry.height {
@@ -58,8 +59,10 @@ pub(crate) fn build_tables(source: Gray8View<'_>, workspace: &mut [u64], at: usi
 
 // Sums the pixels of an area by the four corners that it has in the table which starts at `base`.
 pub(crate) fn rect_sum(workspace: &[u64], base: usize, wide: usize, area: Area) -> u64
-    requires { Corners workspace.now base wide area.left area.top (area.right + 1) (area.bottom + 1) }
-    ensures { result ≡ corner_sum workspace.now base wide area.left area.top (area.right + 1) (area.bottom + 1) }
+    requires { Corners workspace.now base wide area.left area.top (area.right + 1) (area.bottom + 1)
+        × Unwrapped workspace.now base wide area.left area.top (area.right + 1) (area.bottom + 1) }
+    ensures { result
+        ≡ corner_sum wide_modulus workspace.now base wide area.left area.top (area.right + 1) (area.bottom + 1) }
 {
     let x0 = area.left;
     let x1 = area.right + 1;

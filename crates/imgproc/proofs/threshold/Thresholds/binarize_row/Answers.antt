@@ -1,16 +1,14 @@
+-- `binarize_row` writes the verdict of each pixel of the row. Assumes nothing.
 use native.Mathlib.Omega.{arith}
 use Prim.Native.Nat.{◌<◌}
 use mathlib.Core.Path.{◌≡◌, ◌∙◌}
 use lib.ListN.{get_or}
-use lib.Seq.{get_or-set_same, get_or-set_other}
-use borrow.Author.Count.{below_more}
-use native.Mathlib.Nat.{ne_of_lt}
 use Rattle.image.specs.Plane.{picture}
 use Rattle.imgproc.specs.Tables.{pixels_of}
 use Rattle.image.specs.RowLaws.{row_long, row_picture}
-use Rattle.imgproc.proofs.threshold.Verdicts.{verdict_dark, verdict_light}
+use Rattle.imgproc.proofs.threshold.Verdicts.{verdict_is, verdicts_more}
 use Rattle.imgproc.proofs.threshold.Thresholds.binarize_row.Goals as goal
-use Rattle.imgproc.proofs.threshold.Thresholds.binarize_row.Goals.{In-loop-x, then-from-at_pixel, else-from-at_pixel}
+use Rattle.imgproc.proofs.threshold.Thresholds.binarize_row.Goals.{In-loop-x}
 
 -- the row that was handed out has the width, and its byte at x is pixel (x, y)
 inside : (t : In-loop-x) → t.loop-x.x < t.args.self.source.geometry.width
@@ -36,14 +34,9 @@ loop-x-preserved c =
     let s = c.args.self in
     let g = s.source.geometry in
     let p = picture s.source.pixels.now g in
-    let x = c.loop-x.x in
     let t = (goal.at.loop-x-preserved c).In-loop-x in
-    below_more _ x (λ k m. get_or-set_other c.loop-x.out x k _ 0 (ne_of_lt m) ∙ c.loop-x.invariant k m)
-    (get_or-set_same c.loop-x.out x _ 0 (omega (arith, inside t))
-    ∙ (elim c.if-from-at_pixel.branch [
-      | then-from-at_pixel w ↦ w.out-is ∙ verdict_dark s.config g.width g.height p x c.args.y (c.from.ensures ∙ value-is t) c.at_pixel.ensures w.if-from-at_pixel.true
-      | else-from-at_pixel w ↦ w.out-is ∙ verdict_light s.config g.width g.height p x c.args.y (c.from.ensures ∙ value-is t) c.at_pixel.ensures w.if-from-at_pixel.false
-    ]))
+    verdicts_more s.config g.width g.height p c.args.y c.loop-x.out c.loop-x.invariant (omega (arith, inside t))
+    (c.verdict.ensures ∙ verdict_is s.config g.width g.height p c.loop-x.x c.args.y (value-is t) c.at_pixel.ensures)
 
 pub returns : goal.returns
 returns c =

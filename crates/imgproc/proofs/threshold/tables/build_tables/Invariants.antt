@@ -1,7 +1,7 @@
 -- `build_tables` makes the row of zeros, then a row below each row of the picture. Assumes nothing.
 use Prim.Native.Nat.{◌+◌}
-use Rattle.imgproc.specs.Tables.{TableRows}
+use Rattle.imgproc.specs.Tables.{wide_modulus, TableRows}
 use Rattle.imgproc.proofs.threshold.tables.build_tables.Given as goal
 
 abbrev pub invariant-loop-y : goal.invariant-loop-y
-invariant-loop-y l = TableRows l.source.pixels.now l.source.geometry l.at (l.y + 1) l.workspace
+invariant-loop-y l = TableRows wide_modulus l.source.pixels.now l.source.geometry l.at (l.y + 1) l.workspace

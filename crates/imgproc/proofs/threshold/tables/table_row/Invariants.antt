@@ -1,8 +1,9 @@
 -- `table_row` adds one row to both tables: the entries so far, and the sums of the row's pixels so far. Assumes nothing.
-use Rattle.imgproc.specs.Tables.{pixels_of}
+use Rattle.imgproc.specs.Tables.{wide_modulus, pixels_of}
 use Rattle.imgproc.proofs.threshold.tables.Entries.{RowSoFar}
 use Rattle.imgproc.proofs.threshold.tables.table_row.Given as goal
 
 abbrev pub invariant-loop-i : goal.invariant-loop-i
 invariant-loop-i l =
-    RowSoFar (pixels_of l.source.pixels.now l.source.geometry) l.source.geometry.width l.source.geometry.height l.at l.y l.workspace l.sum l.sum_sq l.i
+    let s = l.source in
+    RowSoFar wide_modulus (pixels_of s.pixels.now s.geometry) s.geometry.width s.geometry.height l.at l.y l.workspace l.sum l.sum_sq l.i

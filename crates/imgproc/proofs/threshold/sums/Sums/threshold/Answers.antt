@@ -2,7 +2,7 @@
 use Prim.Native.Nat.{ℕ, ◌*◌, ◌/◌}
 use mathlib.Core.Path.{ap₂}
 use Rattle.imgproc.specs.Sauvola.{scale, threshold}
-use Rattle.imgproc.proofs.threshold.Sums.threshold.Goals as goal
+use Rattle.imgproc.proofs.threshold.sums.Sums.threshold.Goals as goal
 
 pub returns : goal.returns
 unfolding threshold

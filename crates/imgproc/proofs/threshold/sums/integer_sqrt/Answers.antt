@@ -1,7 +1,7 @@
 -- `integer_sqrt` is std's root. Assumes nothing.
 use Rattle.std.proofs.Common.{arith, ◌∙◌}
 use Rattle.imgproc.specs.WholeRoot.{root_is}
-use Rattle.imgproc.proofs.threshold.integer_sqrt.Goals as goal
+use Rattle.imgproc.proofs.threshold.sums.integer_sqrt.Goals as goal
 
 pub returns : goal.returns
 returns c =

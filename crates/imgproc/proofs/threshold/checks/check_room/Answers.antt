@@ -3,7 +3,7 @@ use Rattle.std.proofs.Common.{sym, ◌∙◌}
 use Rattle.imgproc.specs.Refusals.{sauvola_settings}
 use Rattle.imgproc.specs.RefusalLaws.{then_refused}
 use Rattle.imgproc.proofs.WaysOut.{passed}
-use Rattle.imgproc.proofs.threshold.check_room.Goals as goal
+use Rattle.imgproc.proofs.threshold.checks.check_room.Goals as goal
 
 pub returns-in_err-check_settings : goal.returns-in_err-check_settings
 returns-in_err-check_settings c =
