@@ -33,30 +33,35 @@
 #error "the archive is for x86-64"
 #endif
 
-/* The version, and the number of the calling form, which changes whenever a declaration changes. */
-#define IMGPROC_VERSION "0.3.0"
+/* The version, and the number of the calling form, which changes whenever a declaration changes; an added one leaves
+   it. */
+#define IMGPROC_VERSION "0.4.0"
 #define IMGPROC_ABI 3
 
 /* The largest side of a picture. */
 #define IMGPROC_MAX_SIDE 4096
 
+/* The most pixels of a window of imgproc_sauvola_narrow_into: 32 bits hold the sum of that many squares of bytes. */
+#define IMGPROC_MAX_WINDOW 66051
+
 #ifdef __cplusplus
 extern "C" {
 #endif
 
-/* The answers of a call. */
+/* The answers of a call. 11 is the programs' alone. */
 enum imgproc_refusal {
     IMGPROC_ACCEPTED = 0,
-    IMGPROC_EMPTY_DIMENSIONS = 1,      /* a side is zero */
-    IMGPROC_STRIDE_TOO_SMALL = 2,      /* the stride is below the width */
-    IMGPROC_BUFFER_TOO_SMALL = 3,      /* the range is shorter than the picture needs */
-    IMGPROC_SIDE_TOO_LARGE = 4,        /* a side is above IMGPROC_MAX_SIDE */
-    IMGPROC_DIMENSION_MISMATCH = 5,    /* source and destination differ in width or height */
-    IMGPROC_INVALID_KERNEL = 6,        /* the kernel is even or below 3 */
-    IMGPROC_INVALID_CONFIGURATION = 7, /* a setting is out of range */
-    IMGPROC_WORKSPACE_TOO_SMALL = 8,   /* the range to copy to, or the workspace, is too short */
-    IMGPROC_OUTSIDE_PICTURE = 9,       /* the pixel or row lies outside the picture, or the tile outside the grid */
-    IMGPROC_GRID_BUFFER_TOO_SMALL = 10 /* a buffer of thresholds, skips or counts of open tiles is too short */
+    IMGPROC_EMPTY_DIMENSIONS = 1,       /* a side is zero */
+    IMGPROC_STRIDE_TOO_SMALL = 2,       /* the stride is below the width */
+    IMGPROC_BUFFER_TOO_SMALL = 3,       /* the range is shorter than the picture needs */
+    IMGPROC_SIDE_TOO_LARGE = 4,         /* a side is above IMGPROC_MAX_SIDE */
+    IMGPROC_DIMENSION_MISMATCH = 5,     /* source and destination differ in width or height */
+    IMGPROC_INVALID_KERNEL = 6,         /* the kernel is even or below 3 */
+    IMGPROC_INVALID_CONFIGURATION = 7,  /* a setting is out of range */
+    IMGPROC_WORKSPACE_TOO_SMALL = 8,    /* the range to copy to, or the workspace, is too short */
+    IMGPROC_OUTSIDE_PICTURE = 9,        /* the pixel or row lies outside the picture, or the tile outside the grid */
+    IMGPROC_GRID_BUFFER_TOO_SMALL = 10, /* a buffer of thresholds, skips or counts of open tiles is too short */
+    IMGPROC_WINDOW_TOO_LARGE = 12       /* a window has more than IMGPROC_MAX_WINDOW pixels */
 };
 
 /* Returns the number of the archive's calling form, which its name holds too. Each file that includes this header
@@ -164,6 +169,19 @@ uint32_t imgproc_sauvola_into(const uint8_t *src, size_t src_len,
                               size_t radius, uint32_t k_milli, uint32_t dynamic_range,
                               uint8_t dark_value, uint8_t light_value,
                               uint64_t *workspace, size_t workspace_len);
+
+/* Writes what imgproc_sauvola_into writes. Its workspace is of u32s and so takes half the bytes, but it takes only
+   windows of at most IMGPROC_MAX_WINDOW pixels. Refused: layout of src, layout of dst, 5, 7 as imgproc_sauvola_into,
+   then 12 if the largest window, min(2 * radius + 1, width) * min(2 * radius + 1, height) pixels, is above that, then 8
+   if workspace_len is below 2 * (width + 1) * (height + 1) numbers. Any radius but 0 is possible: the product is the
+   true one. */
+uint32_t imgproc_sauvola_narrow_into(const uint8_t *src, size_t src_len,
+                                     size_t src_width, size_t src_height, size_t src_stride,
+                                     uint8_t *dst, size_t dst_len,
+                                     size_t dst_width, size_t dst_height, size_t dst_stride,
+                                     size_t radius, uint32_t k_milli, uint32_t dynamic_range,
+                                     uint8_t dark_value, uint8_t light_value,
+                                     uint32_t *workspace, size_t workspace_len);
 
 /* Cuts the picture into tiles and writes one threshold and one skip byte (0 or 1) for each, tile row by tile row, to
    the first t bytes of thresholds and of skips; later bytes stay. *tiles_x receives width / tile_width, rounded up,

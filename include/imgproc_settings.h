@@ -41,6 +41,12 @@ struct imgproc_u64s {
     size_t len;
 };
 
+/* A u32 workspace; len counts numbers, not bytes. */
+struct imgproc_u32s {
+    uint32_t *data;
+    size_t len;
+};
+
 /* A buffer of the number of open tiles of each tile row: those that are not skipped. len counts numbers, not bytes. */
 struct imgproc_open_tiles {
     uint16_t *data;
@@ -75,7 +81,7 @@ struct imgproc_grid_settings {
 };
 #define IMGPROC_GRID_DEFAULTS { 16, 16, 1, 0, 12, IMGPROC_MIDRANGE, 0.0, 0.0 }
 
-/* Settings of imgproc_binarize. */
+/* Settings of imgproc_binarize and of imgproc_binarize_narrow. */
 struct imgproc_sauvola_settings {
     size_t radius;          /* the window reaches this far to each side: not 0 */
     uint32_t k_milli;       /* Sauvola's k in thousandths: at most 1000 */
@@ -159,6 +165,7 @@ static inline const char *imgproc_refusal_words(uint32_t number) {
     case IMGPROC_WORKSPACE_TOO_SMALL: return "the workspace is too short";
     case IMGPROC_OUTSIDE_PICTURE: return "the place lies outside the picture or the grid";
     case IMGPROC_GRID_BUFFER_TOO_SMALL: return "a grid buffer is too short";
+    case IMGPROC_WINDOW_TOO_LARGE: return "a window has too many pixels";
     default: return "the reason is not known here";
     }
 }
@@ -191,6 +198,11 @@ static inline size_t imgproc_division_bytes(size_t width, size_t height) {
 /* Returns the u64s that imgproc_binarize needs. */
 static inline size_t imgproc_sauvola_u64s(size_t width, size_t height) {
     return imgproc_u64_count(imgproc_times(2, imgproc_times(imgproc_plus(width, 1), imgproc_plus(height, 1))));
+}
+
+/* Returns the u32s that imgproc_binarize_narrow needs: as many as imgproc_binarize needs u64s. */
+static inline size_t imgproc_sauvola_u32s(size_t width, size_t height) {
+    return imgproc_sauvola_u64s(width, height);
 }
 
 /* Returns the number of tiles of a picture, which is also the length of its thresholds and of its skips; 0 if a tile
@@ -246,6 +258,17 @@ static inline uint32_t imgproc_binarize(struct imgproc_source src, struct imgpro
                                 settings->radius, settings->k_milli, settings->dynamic_range,
                                 settings->dark_value, settings->light_value,
                                 workspace.data, workspace.len);
+}
+
+/* Calls imgproc_sauvola_narrow_into. */
+static inline uint32_t imgproc_binarize_narrow(struct imgproc_source src, struct imgproc_destination dst,
+                                               const struct imgproc_sauvola_settings *settings,
+                                               struct imgproc_u32s workspace) {
+    return imgproc_sauvola_narrow_into(src.data, src.len, src.width, src.height, src.stride,
+                                       dst.data, dst.len, dst.width, dst.height, dst.stride,
+                                       settings->radius, settings->k_milli, settings->dynamic_range,
+                                       settings->dark_value, settings->light_value,
+                                       workspace.data, workspace.len);
 }
 
 /* Calls imgproc_tile_grid_build. A refused call leaves *grid as it was. */

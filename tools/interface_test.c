@@ -1,7 +1,7 @@
 /* Compares the named calls of imgproc_settings.h with the flat ones: both must give the same numbers, bytes and counts,
    over good and bad settings, layouts and lengths. Compares the calls that skip a tile by hand, and what they leave,
-   with what looking at every tile says. Prints how many calls were compared, or the first difference. For C99 and
-   C++11. */
+   with what looking at every tile says, and Sauvola's narrow call with the wide one. Prints how many calls were
+   compared, or the first difference. For C99 and C++11. */
 #include <stdio.h>
 #include <stdlib.h>
 #include <string.h>
@@ -32,6 +32,7 @@ static void check(int holds, const char *what) {
 static uint8_t picture[ROOM];
 static uint8_t dst[2][ROOM], bytes[2][BYTES], thresholds[2][ROOM], skips[2][ROOM];
 static uint64_t u64s[2][U64S];
+static uint32_t u32s[2][U64S];
 static uint16_t open_tiles[2][ROOM];
 
 static void fill(void) {
@@ -45,6 +46,7 @@ static void fill(void) {
     }
     memset(bytes, (int)below(256), sizeof bytes);
     memset(u64s, (int)below(256), sizeof u64s);
+    memset(u32s, (int)below(256), sizeof u32s);
 }
 
 static void same(uint32_t named, uint32_t flat, const char *what) {
@@ -54,6 +56,7 @@ static void same(uint32_t named, uint32_t flat, const char *what) {
     check(memcmp(dst[0], dst[1], sizeof dst[0]) == 0, what);
     check(memcmp(bytes[0], bytes[1], sizeof bytes[0]) == 0, what);
     check(memcmp(u64s[0], u64s[1], sizeof u64s[0]) == 0, what);
+    check(memcmp(u32s[0], u32s[1], sizeof u32s[0]) == 0, what);
     check(memcmp(thresholds[0], thresholds[1], sizeof thresholds[0]) == 0, what);
     check(memcmp(skips[0], skips[1], sizeof skips[0]) == 0, what);
     check(memcmp(open_tiles[0], open_tiles[1], sizeof open_tiles[0]) == 0, what);
@@ -168,6 +171,141 @@ static void check_blanking(void) {
         }
 }
 
+/* A picture in which windows can have too many pixels, and what Sauvola's calls are lent for it: twice for the narrow
+   call, by name and flat, and once for the wide one. `blank` and `untouched` hold what is there before a call. */
+#define LARGE (400 * 404)
+#define TABLES (2 * 401 * 401)
+static uint8_t large[LARGE], marked[3][LARGE], blank[LARGE];
+static uint32_t narrow_tables[2][TABLES + 1], untouched[TABLES + 1];
+static uint64_t wide_tables[TABLES];
+
+/* Makes the narrow call by name and flat, and returns its answer. Checks that nothing changes if it is refused, and
+   else that no byte outside the rows and no number behind the workspace changes. */
+static uint32_t narrow(struct imgproc_source src, struct imgproc_destination to,
+                       const struct imgproc_sauvola_settings *s, size_t len) {
+    const struct imgproc_u32s lent_u32s = {narrow_tables[0], len};
+    uint32_t named, flat;
+    size_t i, kept = 0;
+    memset(blank, 77, sizeof blank);
+    memset(marked, 77, sizeof marked);
+    memset(untouched, 88, sizeof untouched);
+    memset(narrow_tables, 88, sizeof narrow_tables);
+    to.data = marked[0];
+    named = imgproc_binarize_narrow(src, to, s, lent_u32s);
+    flat = imgproc_sauvola_narrow_into(src.data, src.len, src.width, src.height, src.stride, marked[1], to.len,
+                                       to.width, to.height, to.stride, s->radius, s->k_milli, s->dynamic_range,
+                                       s->dark_value, s->light_value, narrow_tables[1], len);
+    compared++;
+    check(named == flat, "imgproc_binarize_narrow");
+    check(memcmp(marked[0], marked[1], sizeof marked[0]) == 0, "imgproc_binarize_narrow's destination");
+    if (flat == IMGPROC_ACCEPTED) {
+        kept = len;
+        for (i = 0; i < LARGE; i++)
+            check(marked[1][i] == 77 || (i / to.stride < to.height && i % to.stride < to.width),
+                  "a byte outside the rows after imgproc_sauvola_narrow_into");
+    } else {
+        refused++;
+        check(memcmp(marked[1], blank, sizeof blank) == 0, "a refused imgproc_sauvola_narrow_into changes a byte");
+    }
+    for (i = 0; i < 2; i++)
+        check(memcmp(narrow_tables[i] + kept, untouched + kept, (TABLES + 1 - kept) * sizeof *untouched) == 0,
+              "imgproc_sauvola_narrow_into changes a number that it must not");
+    return flat;
+}
+
+/* Makes the narrow call on a picture of bytes that are at least `least`, and checks its answer: 12 if the largest
+   window has more than IMGPROC_MAX_WINDOW pixels, even if the workspace is short. The wide call takes every window, and
+   has to write the same bytes. Returns the answer. */
+static uint32_t compare_widths(size_t width, size_t height, size_t radius, uint8_t least) {
+    const struct imgproc_sauvola_settings s = {radius, (uint32_t)below(1001), (uint32_t)(1 + below(200)), 0, 255};
+    const size_t room = imgproc_sauvola_u32s(width, height), side = radius < 4096 ? 2 * radius + 1 : 8193;
+    const size_t pixels = (side < width ? side : width) * (side < height ? side : height);
+    const uint32_t expected = pixels > IMGPROC_MAX_WINDOW ? IMGPROC_WINDOW_TOO_LARGE : IMGPROC_ACCEPTED;
+    const struct imgproc_u64s lent_u64s = {wide_tables, TABLES};
+    struct imgproc_source src = {large, LARGE, width, height, width};
+    struct imgproc_destination to = {marked[2], LARGE, width, height, width};
+    size_t i;
+    src.stride += below(4);
+    to.stride += below(4);
+    for (i = 0; i < LARGE; i++)
+        large[i] = (uint8_t)(least + below(256u - least));
+    check(room == 2 * (width + 1) * (height + 1) && room <= TABLES, "imgproc_sauvola_u32s");
+    check(narrow(src, to, &s, room - 1) ==
+              (expected != IMGPROC_ACCEPTED ? expected : (uint32_t)IMGPROC_WORKSPACE_TOO_SMALL),
+          "a workspace that is one number short");
+    check(narrow(src, to, &s, room) == expected, "the limit of a window");
+    check(imgproc_binarize(src, to, &s, lent_u64s) == IMGPROC_ACCEPTED, "the wide call takes every window");
+    check(expected != IMGPROC_ACCEPTED || memcmp(marked[1], marked[2], sizeof marked[1]) == 0,
+          "imgproc_sauvola_narrow_into does not write what imgproc_sauvola_into writes");
+    return expected;
+}
+
+/* Checks the limit of a window at its edge and around it, and that the bytes are those of the wide call. The squares of a
+   bright picture of 75,000 pixels or more add up to more than 32 bits hold. */
+static void check_windows(void) {
+    static const struct {
+        size_t width, height, radius;
+        uint32_t answer;
+    } cases[] = {
+        /* The whole picture is 66,049, 66,051, 66,052 and 65,536 pixels, and one column or row more. */
+        {257, 257, 128, 0}, {257, 257, 129, 0}, {257, 257, SIZE_MAX, 0}, {257, 258, SIZE_MAX, 12},
+        {369, 179, 184, 0}, {369, 179, SIZE_MAX, 0}, {179, 369, 184, 0}, {196, 337, 168, 12}, {337, 196, 168, 12},
+        {196, 337, 167, 0}, {4096, 16, SIZE_MAX, 0}, {4096, 17, 2048, 12}, {16, 4096, 4096, 0}, {17, 4096, 2048, 12},
+        /* One side is cut. */
+        {400, 179, 184, 0}, {400, 179, 185, 12}, {179, 400, 184, 0}, {179, 400, 185, 12}, {400, 196, 168, 12},
+        {400, 196, 167, 0}, {196, 400, 168, 12}, {196, 400, 167, 0},
+        /* No side is cut: 257 x 257 pixels and 259 x 259. */
+        {300, 300, 128, 0}, {300, 300, 129, 12}, {400, 400, 128, 0}, {400, 400, 129, 12},
+        /* 2 * radius + 1 does not fit into 64 bits, or just fits. */
+        {1, 1, SIZE_MAX, 0}, {1, 1, 1, 0}, {300, 300, SIZE_MAX, 12}, {300, 300, SIZE_MAX / 2, 12},
+        {300, 300, SIZE_MAX / 2 + 1, 12}, {300, 300, SIZE_MAX / 2 + 2, 12}, {300, 300, SIZE_MAX / 2 + 9, 12}};
+    static const uint8_t least[] = {0, 240, 255};
+    size_t i, j, seen[2] = {0, 0};
+    check(IMGPROC_MAX_WINDOW == 369 * 179 && IMGPROC_MAX_WINDOW + 1 == 196 * 337, "IMGPROC_MAX_WINDOW");
+    for (i = 0; i < sizeof cases / sizeof *cases; i++)
+        for (j = 0; j < sizeof least; j++)
+            check(compare_widths(cases[i].width, cases[i].height, cases[i].radius, least[j]) == cases[i].answer,
+                  "a case of the limit of a window");
+    for (i = 0; i < 60; i++)
+        seen[compare_widths(200 + below(201), 200 + below(201), 80 + below(101), least[i % 3]) == IMGPROC_ACCEPTED]++;
+    check(seen[0] > 10 && seen[1] > 10, "too few windows of one kind");
+}
+
+/* Checks each reason to refuse the narrow call alone, and of several the first. */
+static void check_narrow(void) {
+    size_t a, b, c, d, e, f;
+    for (a = 0; a < 5; a++)
+        for (b = 0; b < 5; b++)
+            for (c = 0; c < 2; c++)
+                for (d = 0; d < 4; d++)
+                    for (e = 0; e < 2; e++)
+                        for (f = 0; f < 3; f++) {
+                            struct imgproc_sauvola_settings s = IMGPROC_SAUVOLA_DEFAULTS;
+                            struct imgproc_source src = {large, 301 * 299 + 300, 300, 300, 301};
+                            struct imgproc_destination to = {marked[0], 302 * 299 + 300, 300, 300, 302};
+                            const size_t room = 2 * 301 * 301, lengths[] = {room, room - 1, 0};
+                            const size_t first[] = {a, b, c ? 5u : 0, d ? 7u : 0, e ? 12u : 0, f ? 8u : 0};
+                            size_t i = 0;
+                            /* a and b are the numbers of the layouts' refusals. */
+                            if (c) to.height -= 1;
+                            if (a == 1) src.height = 0;
+                            if (a == 2) src.stride = src.width - 1;
+                            if (a == 3) src.len -= 1;
+                            if (a == 4) src.width = src.stride = src.len = 4097, src.height = 1;
+                            if (b == 1) to.width = 0;
+                            if (b == 2) to.stride = to.width - 1;
+                            if (b == 3) to.len = to.stride * (to.height - 1) + to.width - 1;
+                            if (b == 4) to.height = to.len = 4097, to.width = to.stride = 1;
+                            s.radius = e ? 129 : 128;
+                            if (d == 1) s.radius = 0;
+                            if (d == 2) s.k_milli = 1001;
+                            if (d == 3) s.dynamic_range = 0;
+                            while (i < 5 && first[i] == 0)
+                                i++;
+                            check(narrow(src, to, &s, lengths[f]) == first[i], "a reason to refuse the narrow call");
+                        }
+}
+
 /* Returns good settings, or settings with one number out of range. */
 static struct imgproc_reading_settings some_settings(void) {
     struct imgproc_reading_settings s = IMGPROC_READING_DEFAULTS;
@@ -233,13 +371,15 @@ static void compare_calls(void) {
     struct imgproc_destination to;
     struct imgproc_bytes lent_bytes, lent_thresholds, lent_skips;
     struct imgproc_u64s lent_u64s;
+    struct imgproc_u32s lent_u32s;
     struct imgproc_open_tiles lent_open;
     struct imgproc_counts counts, left;
     struct imgproc_grid grid, sizes;
     uint64_t comparisons[2] = {7, 7}, dark = 1, light = 2, skipped = 3, tally = 4;
     size_t tiles_x = 0, tiles_y = 0, x, y, off = below(16);
     uint8_t value[2] = {9, 9};
-    uint32_t named, flat;
+    uint32_t named, flat, answer;
+    static uint8_t before[ROOM], wide[ROOM];
 
     src.data = picture;
     src.width = 1 + below(SIDE / 2);
@@ -257,6 +397,7 @@ static void compare_calls(void) {
     if (off == 3) to.height += 1, to.len += to.stride;
     lent_bytes.data = bytes[0];
     lent_u64s.data = u64s[0];
+    lent_u32s.data = u32s[0];
     lent_thresholds.data = thresholds[0];
     lent_skips.data = skips[0];
     lent_thresholds.len = lent_skips.len = imgproc_tiles(src.width, src.height, &s.grid);
@@ -280,6 +421,7 @@ static void compare_calls(void) {
     check(off != 4 || flat != IMGPROC_ACCEPTED, "imgproc_division_bytes is longer than needed");
 
     fill();
+    memcpy(before, dst[0], sizeof before);
     lent_u64s.len = imgproc_sauvola_u64s(src.width, src.height) - (off == 4);
     named = imgproc_binarize(src, to, &s.sauvola, lent_u64s);
     flat = imgproc_sauvola_into(picture, src.len, src.width, src.height, src.stride, dst[1], to.len, to.width,
@@ -288,6 +430,20 @@ static void compare_calls(void) {
     same(named, flat, "imgproc_binarize");
     check((flat == IMGPROC_WORKSPACE_TOO_SMALL) <= (off == 4), "imgproc_sauvola_u64s");
     check(off != 4 || flat != IMGPROC_ACCEPTED, "imgproc_sauvola_u64s is longer than needed");
+
+    /* No window here is too large, so the narrow call answers and writes as the wide one. */
+    memcpy(wide, dst[1], sizeof wide);
+    memcpy(dst[0], before, sizeof before);
+    memcpy(dst[1], before, sizeof before);
+    answer = flat;
+    lent_u32s.len = imgproc_sauvola_u32s(src.width, src.height) - (off == 4);
+    named = imgproc_binarize_narrow(src, to, &s.sauvola, lent_u32s);
+    flat = imgproc_sauvola_narrow_into(picture, src.len, src.width, src.height, src.stride, dst[1], to.len, to.width,
+                                       to.height, to.stride, s.sauvola.radius, s.sauvola.k_milli,
+                                       s.sauvola.dynamic_range, s.sauvola.dark_value, s.sauvola.light_value, u32s[1],
+                                       lent_u32s.len);
+    same(named, flat, "imgproc_binarize_narrow");
+    check(flat == answer && memcmp(wide, dst[1], sizeof wide) == 0, "imgproc_binarize_narrow and imgproc_binarize");
 
     fill();
     memset(&grid, 77, sizeof grid);
@@ -422,6 +578,8 @@ static void check_lengths(void) {
                           imgproc_reading_bytes(w, h, &s) == SIZE_MAX, "imgproc_reading_bytes wraps");
                 check((double)imgproc_sauvola_u64s(w, h) >= table * 0.99 || imgproc_sauvola_u64s(w, h) == most,
                       "imgproc_sauvola_u64s wraps");
+                check((double)imgproc_sauvola_u32s(w, h) >= table * 0.99 || imgproc_sauvola_u32s(w, h) == most,
+                      "imgproc_sauvola_u32s wraps");
                 check((double)imgproc_reading_u64s(w, h, &s) >= table * 0.99 ||
                           imgproc_reading_u64s(w, h, &s) == most, "imgproc_reading_u64s wraps");
                 check(imgproc_reading_u64s(w, h, &s) <= most && imgproc_grid_u64s(w, h, &s.grid) <= most &&
@@ -437,10 +595,12 @@ static void check_lengths(void) {
 
 static void check_words(void) {
     uint32_t a, b;
-    for (a = 0; a <= IMGPROC_GRID_BUFFER_TOO_SMALL + 1; a++)
+    for (a = 0; a <= IMGPROC_WINDOW_TOO_LARGE; a++)
         for (b = 0; b < a; b++)
             check(strcmp(imgproc_refusal_words(a), imgproc_refusal_words(b)) != 0, "two refusals have the same words");
-    check(strcmp(imgproc_refusal_words(11), imgproc_refusal_words(UINT32_MAX)) == 0, "the words of an unknown number");
+    check(strcmp(imgproc_refusal_words(11), imgproc_refusal_words(UINT32_MAX)) == 0 &&
+              strcmp(imgproc_refusal_words(11), imgproc_refusal_words(13)) == 0,
+          "the words of an unknown number");
 }
 
 int main(void) {
@@ -450,6 +610,8 @@ int main(void) {
     check_columns();
     compare_defaults();
     check_blanking();
+    check_windows();
+    check_narrow();
     for (i = 0; i < 4000; i++)
         compare_calls();
     check(readings[0] > 1000 && readings[1] > 1000, "too few readings of one kind");

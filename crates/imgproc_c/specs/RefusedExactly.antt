@@ -1,16 +1,19 @@
--- When an export that takes the grid's method as a number, or sets or clears a skip by hand, is refused: with n exactly
--- when n is the number of the first condition of its list that fits, and then every lent buffer is as it was. Assumes
--- nothing.
+-- When an export is refused that goes from picture to picture, takes the grid's method as a number, or sets or clears a
+-- skip by hand: with n exactly when n is the number of the first condition of its list that fits, and then every lent
+-- buffer is as it was. Assumes nothing.
 use Rattle.std.specs.Prelude.{ℕ, ◌<◌, ◌≡◌, ◌↔◌, List}
 use Rattle.std.proofs.Common.{arith, sym, ap, ◌∙◌}
 use Rattle.image.specs.Answers.{Answer, accepted, refused, answer_number, Condition}
 use Rattle.image.specs.RefusedExactly.{FirstFits, Exactly, differ}
 use Rattle.imgproc.specs.declared.grid.TileCounts.{TileCounts}
 use Rattle.imgproc.specs.GridCalls.{BuildLent, BuildLeft, tiles_from}
+use Rattle.imgproc.specs.Calls.{Operator, Loan, Left, conditions_of, answer_of}
 use Rattle.imgproc.specs.Reading.{ReadingLent, ReadingLeft, ReadingNumbers, numbers_from}
 use Rattle.imgproc.specs.Blanking.{SkipLent, SkipLeft, skip_conditions}
 use Rattle.imgproc.specs.RefusedExactly.{
   numbers,
+  call_exactly,
+  call_keeps,
   build_exactly,
   build_keeps,
   sets_exactly,
@@ -18,6 +21,7 @@ use Rattle.imgproc.specs.RefusedExactly.{
   reading_exactly,
   reading_keeps,
 }
+use Rattle.imgproc_c.specs.Exports.{Exports}
 use Rattle.imgproc_c.specs.Grid.{number_conditions, built_from, BuildsNumber, skip_answer, SetsSkipNumber}
 use Rattle.imgproc_c.specs.Reading.{number_conditions as read_conditions, read_from, ReadsNumber}
 
@@ -51,7 +55,19 @@ number_exactly (refused m) x e n p = (
   λ f. let r : m ≡ n = same ((x.refused_exactly n).1 f) in e ∙ r,
 )
 
--- the calls that set or clear a skip by hand: the number that is returned
+-- erosion, dilation, opening, closing, division, both calls of Sauvola: the number that is returned
+module _ {S A : Type 0} {operator : Operator S A} {lent : Loan S} {held held' : A} {number : ℕ} {left : Left}
+    (export : Exports operator lent held number left held') where
+  pub call_number_exactly : (n : ℕ) → 0 < n → (number ≡ n) ↔ FirstFits (numbers (conditions_of operator lent)) n
+  call_number_exactly =
+      number_exactly (answer_of operator lent) (call_exactly export.serves) export.tells.answers
+
+  pub call_number_keeps : (n : ℕ) → 0 < n → number ≡ n
+      → (left.dst ≡ lent.dst) × (left.workspace ≡ lent.workspace)
+  call_number_keeps n p q =
+      call_keeps export.serves (((call_exactly export.serves).refused_exactly n).1 ((call_number_exactly n p).0 q))
+
+-- the calls that set or clear a skip by hand
 module _ {v : ℕ} {lent : SkipLent} {number : ℕ} {left : SkipLeft} (export : SetsSkipNumber v lent number left) where
   pub skip_number_exactly : (n : ℕ) → 0 < n → (number ≡ n) ↔ FirstFits (numbers (skip_conditions lent)) n
   skip_number_exactly = number_exactly (skip_answer lent) (sets_exactly export.sets) export.answers

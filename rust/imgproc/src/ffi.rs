@@ -51,6 +51,11 @@ extern "C" {
         dst_len: usize, dst_width: usize, dst_height: usize, dst_stride: usize, radius: usize, k_milli: u32,
         dynamic_range: u32, dark_value: u8, light_value: u8, workspace: *mut u64, workspace_len: usize,
     ) -> u32;
+    pub fn imgproc_sauvola_narrow_into(
+        src: *const u8, src_len: usize, src_width: usize, src_height: usize, src_stride: usize, dst: *mut u8,
+        dst_len: usize, dst_width: usize, dst_height: usize, dst_stride: usize, radius: usize, k_milli: u32,
+        dynamic_range: u32, dark_value: u8, light_value: u8, workspace: *mut u32, workspace_len: usize,
+    ) -> u32;
     pub fn imgproc_tile_grid_build(
         src: *const u8, src_len: usize, width: usize, height: usize, stride: usize, tile_width: usize,
         tile_height: usize, neighborhood_radius: usize, threshold_offset: i16, contrast_floor: u8, method: u32, k: f64,

@@ -35,6 +35,8 @@ pub enum Refusal {
     WorkspaceTooSmall,
     /// 10: a buffer of thresholds, skips or counts of open tiles is too short.
     GridBufferTooSmall,
+    /// 12: a window has more than [`crate::sauvola::MAX_WINDOW`] pixels.
+    WindowTooLarge,
     /// A number that these calls do not know.
     Unknown(u32),
 }
@@ -98,6 +100,7 @@ impl Refusal {
             Self::InvalidConfiguration => 7,
             Self::WorkspaceTooSmall => 8,
             Self::GridBufferTooSmall => 10,
+            Self::WindowTooLarge => 12,
             Self::Unknown(number) => number,
         }
     }
@@ -116,6 +119,7 @@ impl Refusal {
             8 => Self::WorkspaceTooSmall,
             9 => Self::Image(LumaError::OutsidePicture),
             10 => Self::GridBufferTooSmall,
+            12 => Self::WindowTooLarge,
             other => Self::Unknown(other),
         })
     }
@@ -128,6 +132,7 @@ impl Refusal {
             Self::InvalidConfiguration => "a setting is out of range",
             Self::WorkspaceTooSmall => "the workspace is too short",
             Self::GridBufferTooSmall => "a grid buffer is too short",
+            Self::WindowTooLarge => "a window has too many pixels",
             Self::Unknown(_) => "the reason is not known here",
         }
     }
