@@ -21,6 +21,12 @@ impl Element for u16 {
     }
 }
 
+impl Element for u32 {
+    fn from_state(state: u32) -> u32 {
+        state
+    }
+}
+
 // Both halves of a u64 are the state.
 impl Element for u64 {
     fn from_state(state: u32) -> u64 {
@@ -149,7 +155,8 @@ impl<'a> Content<'a> {
     }
 }
 
-// What a call is lent: a source, two destinations, a byte workspace, a u64 workspace and a count buffer.
+// What a call is lent: a source, two destinations, a byte workspace, a u64 workspace, a count buffer and a u32
+// workspace.
 #[derive(Drop)]
 pub(crate) struct Lent {
     pub(crate) from: Vec<u8>,
@@ -158,4 +165,5 @@ pub(crate) struct Lent {
     pub(crate) bytes: Vec<u8>,
     pub(crate) u64s: Vec<u64>,
     pub(crate) u16s: Vec<u16>,
+    pub(crate) u32s: Vec<u32>,
 }

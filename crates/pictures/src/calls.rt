@@ -41,6 +41,7 @@ pub(crate) fn call(f: Numbers, lent: &mut Lent) -> Answer {
         bytes,
         u64s,
         u16s,
+        u32s,
     } = lent;
     let g = settings::source(f);
     let h = settings::destination(f);
@@ -78,6 +79,7 @@ pub(crate) fn call(f: Numbers, lent: &mut Lent) -> Answer {
         ],
         21 => told(grid.blank(to, u16s, k, y)),
         22 => told(grid.clear(to, u16s, k, y)),
+        23 => told(threshold::sauvola_narrow_into(from, g, to, h, settings::sauvola(f), u32s)),
         _ => [999, 0, 0, 0, 0],
     }
 }

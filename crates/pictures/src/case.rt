@@ -1,9 +1,9 @@
 // Runs a case: makes what is lent, makes the call, and compares the answer and what is left. A line's sections are the
-// call and its numbers; the lengths of the slices from, to, other, bytes, u64s and u16s; the answer; then the bytes of
-// from before the call, of to before it, of to after it and of other after it, and the numbers of u16s before it and
-// after it. A section behind the line's end has no numbers, and a length that is not there is 0. A slice with nothing
-// listed before holds noise. No call writes `from`. A slice that is not listed after a call has to be as before if the
-// call was refused, and may else hold anything.
+// call and its numbers; the lengths of the slices from, to, other, bytes, u64s, u16s and u32s; the answer; then the
+// bytes of from before the call, of to before it, of to after it and of other after it, and the numbers of u16s before
+// it and after it. A section behind the line's end has no numbers, and a length that is not there is 0. A slice with
+// nothing listed before holds noise. No call writes `from`. A slice that is not listed after a call has to be as before
+// if the call was refused, and may else hold anything.
 use crate::buffers::{Content, Lent, Listed};
 use crate::numbers::Unread;
 use crate::reply::Answer;
@@ -11,17 +11,17 @@ use crate::settings::Numbers;
 use crate::{buffers, calls, numbers};
 use std::alloc::{AllocError, Global};
 
-// The most that the slices from, to, other, bytes, u64s and u16s are long.
-const LONGEST: [usize; 6] = [8192, 8192, 256, 40960, 18432, 8192];
+// The most that the slices from, to, other, bytes, u64s, u16s and u32s are long.
+const LONGEST: [usize; 7] = [73728, 73728, 256, 40960, 18432, 8192, 151552];
 
 // The most numbers that a line lists for all of them.
 const LISTED: usize = 4096;
 
-// A case has the sections of its line, and the seeds of the noise of the six slices.
+// A case has the sections of its line, and the seeds of the noise of the seven slices.
 #[derive(Drop)]
 struct Case {
     call: Numbers,
-    lengths: [usize; 6],
+    lengths: [usize; 7],
     answer: Answer,
     from: Vec<usize>,
     before: Vec<usize>,
@@ -29,7 +29,7 @@ struct Case {
     other: Vec<usize>,
     counts_before: Vec<usize>,
     counts_after: Vec<usize>,
-    seeds: [u32; 6],
+    seeds: [u32; 7],
 }
 
 impl Case {
@@ -50,7 +50,7 @@ impl Case {
             other: numbers::numbers(alloc, section())?,
             counts_before: numbers::numbers(alloc, section())?,
             counts_after: numbers::numbers(alloc, section())?,
-            seeds: [0, 1, 2, 3, 4, 5].map(|slice| seed.wrapping_add(slice)),
+            seeds: [0, 1, 2, 3, 4, 5, 6].map(|slice| seed.wrapping_add(slice)),
         };
         if section().is_empty() && case.fits() {
             Ok(case)
@@ -78,7 +78,7 @@ impl Case {
 
     // Makes what is lent.
     fn lent(&self, alloc: Global) -> Result<Lent, AllocError> {
-        let [from, to, other, bytes, u64s, u16s] = self.lengths;
+        let [from, to, other, bytes, u64s, u16s, u32s] = self.lengths;
         let seeds = self.seeds;
         Ok(Lent {
             from: Content::of(&self.from, seeds[0]).make(alloc, from)?,
@@ -87,6 +87,7 @@ impl Case {
             bytes: buffers::make_noise(alloc, seeds[3], bytes)?,
             u64s: buffers::make_noise(alloc, seeds[4], u64s)?,
             u16s: Content::of(&self.counts_before, seeds[5]).make(alloc, u16s)?,
+            u32s: buffers::make_noise(alloc, seeds[6], u32s)?,
         })
     }
 
@@ -101,6 +102,7 @@ impl Case {
             && is_left(&lent.u16s, u16s, &self.counts_after, refused)
             && (!refused || buffers::is_noise(&lent.bytes, seeds[3]))
             && (!refused || buffers::is_noise(&lent.u64s, seeds[4]))
+            && (!refused || buffers::is_noise(&lent.u32s, seeds[6]))
     }
 
     // Runs the case, and tests the answer and what is left.

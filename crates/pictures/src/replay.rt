@@ -52,7 +52,7 @@ impl fmt::Display for Score {
     }
 }
 
-// Replays a list. The noise of a case has six seeds, and the first is eight above that of the case before it.
+// Replays a list. The noise of a case has seven seeds, and the first is eight above that of the case before it.
 pub(crate) fn replay(alloc: Global, text: &[u8]) -> Result<Score, AllocError> {
     let mut score = Score::default();
     let mut seed = 0u32;

@@ -1,5 +1,6 @@
 //! Times each ported call against the published Rust, in turns in one process on the same warm buffers. Prints a table
-//! of ratios of medians, ours to the Rust's. Below 1 is faster than the Rust.
+//! of ratios of medians, ours to the Rust's. Below 1 is faster than the Rust. A row that names another call of ours has
+//! that call in the Rust's place.
 
 mod through;
 mod time;
@@ -19,6 +20,7 @@ subjects! {
     morphology
     illumination
     sauvola
+    narrow
     grid
     reading
     root

@@ -3,6 +3,7 @@
 use crate::corner::Corner;
 use crate::fault::Fault;
 use crate::guard::Guarded;
+use crate::limit::Limit;
 use crate::mistake::Mistake;
 use crate::rng::Word;
 use std::borrow::Cow;
@@ -11,6 +12,7 @@ use std::borrow::Cow;
 pub enum Buffer {
     Bytes(Guarded<u8>),
     U64s(Guarded<u64>),
+    U32s(Guarded<u32>),
     U16s(Guarded<u16>),
 }
 
@@ -84,6 +86,10 @@ pub trait Case: Clone {
     fn mistaken(&self, _mistake: Mistake, _outcome: &mut Outcome) -> bool {
         false
     }
+    /// Changes the outcome to that of a call with this limit of the window, and tells whether the two differ.
+    fn limited(&self, _limit: Limit, _outcome: &mut Outcome) -> bool {
+        false
+    }
     /// Returns the corners of the domain at which the case stands.
     fn corners(&self) -> Vec<Corner> {
         Vec::new()
@@ -101,6 +107,7 @@ pub fn held<'a, C: Case>(case: &'a C, fault: &mut Option<Fault>) -> Result<Expec
     let planted = match *fault {
         None => false,
         Some(Fault::Mistaken(mistake)) => outcome.number == 0 && case.mistaken(mistake, &mut outcome),
+        Some(Fault::Limited(limit)) => case.limited(limit, &mut outcome),
         Some(kind) => kind.plant(&mut outcome, &case.places()),
     };
     if planted {
@@ -124,6 +131,7 @@ fn compare(expected: &Expected<'_>, outcome: &Outcome) -> Result<(), String> {
         let whole = match buffer {
             Buffer::Bytes(bytes) => bytes.whole(),
             Buffer::U64s(u64s) => u64s.whole(),
+            Buffer::U32s(u32s) => u32s.whole(),
             Buffer::U16s(u16s) => u16s.whole(),
         };
         if !whole {
@@ -135,6 +143,7 @@ fn compare(expected: &Expected<'_>, outcome: &Outcome) -> Result<(), String> {
             (Left::U16s(want), Buffer::U16s(got)) => same(index, want, got)?,
             (Left::Noise(seed), Buffer::Bytes(got)) => same(index, &u8::noise(got.len(), *seed), got)?,
             (Left::Noise(seed), Buffer::U64s(got)) => same(index, &u64::noise(got.len(), *seed), got)?,
+            (Left::Noise(seed), Buffer::U32s(got)) => same(index, &u32::noise(got.len(), *seed), got)?,
             (Left::Noise(seed), Buffer::U16s(got)) => same(index, &u16::noise(got.len(), *seed), got)?,
             (Left::Bytes(_) | Left::U16s(_), _) => unreachable!("each buffer has an expectation of its kind"),
         }

@@ -1,5 +1,6 @@
 //! The corners of the domain: sides and settings at the limits of what is compared with the Rust.
 
+use crate::document;
 use imgproc::grid::TileThresholdConfig;
 use imgproc::MAX_SIDE;
 use Corner::*;
@@ -24,6 +25,14 @@ pub enum Corner {
     LargestTile,
     LargestNeighborhood,
     LargestRadius,
+    /// The radius 2^64 - 1, which document 02's limit of the window has to count truly.
+    EndlessRadius,
+    /// A largest window of just as many pixels as document 02 lets pass.
+    WindowAtLimit,
+    /// The sum of a picture's squares is past 32 bits.
+    WrappedTable,
+    /// It is so 254 times, as often as one can be.
+    OftenWrappedTable,
     LargestOffset,
     LeastOffset,
 }
@@ -41,6 +50,10 @@ impl Corner {
             LargestTile => "tile 2^64 - 1",
             LargestNeighborhood => "neighborhood 65536",
             LargestRadius => "radius 65536",
+            EndlessRadius => "radius 2^64 - 1",
+            WindowAtLimit => "window of 66051",
+            WrappedTable => "squares past 32 bits",
+            OftenWrappedTable => "squares past 32 bits 254 times",
             LargestOffset => "offset 32512",
             LeastOffset => "offset -32768",
         }
@@ -54,6 +67,8 @@ pub const ELEMENT: &[Corner] = &[ElementAbovePicture, LargestElement];
 pub const TILE: &[Corner] = &[TileAbovePicture, LargestTile];
 pub const NEIGHBORHOOD: &[Corner] = &[LargestNeighborhood];
 pub const RADIUS: &[Corner] = &[LargestRadius];
+pub const WINDOW: &[Corner] = &[EndlessRadius, WindowAtLimit];
+pub const WRAPPED: &[Corner] = &[WrappedTable, OftenWrappedTable];
 pub const OFFSET: &[Corner] = &[LargestOffset, LeastOffset];
 
 /// Returns those of the given corners that hold.
@@ -80,6 +95,18 @@ pub fn element(size: usize, width: usize, height: usize) -> Vec<Corner> {
 
 pub fn radius(radius: usize) -> Vec<Corner> {
     standing([(LargestRadius, radius == LARGEST_RADIUS)])
+}
+
+/// Returns the corners of a window, which document 02 limits.
+pub fn window(radius: usize, width: usize, height: usize) -> Vec<Corner> {
+    let at_limit = document::window(radius, width, height) == document::WINDOW_LIMIT;
+    standing([(EndlessRadius, radius == usize::MAX), (WindowAtLimit, at_limit)])
+}
+
+/// Returns the corners of a picture's squares.
+pub fn squares(pixels: impl Iterator<Item = u8>) -> Vec<Corner> {
+    let sum: u64 = pixels.map(|pixel| u64::from(pixel).pow(2)).sum();
+    standing([(WrappedTable, sum >> 32 > 0), (OftenWrappedTable, sum >> 32 == 254)])
 }
 
 pub fn tile(tile_width: usize, tile_height: usize, width: usize, height: usize) -> Vec<Corner> {

@@ -1,4 +1,5 @@
-//! The refusals that documents 01 and 02 add to the Rust's, 4, 8, 9 and 10, and a query's 7, written from their words.
+//! The refusals that documents 01 and 02 add to the Rust's, 4, 8, 9, 10 and 12, and a query's 7, written from their
+//! words.
 
 use imgproc::grid::Grid;
 use imgproc::Geometry;
@@ -11,6 +12,17 @@ pub const WORKSPACE_TOO_SMALL: u32 = 8;
 pub const OUTSIDE: u32 = 9;
 /// "threshold or skip buffer under t bytes 10 (added)"; "a lent u16 buffer of at least tiles_y .. A short one is 10"
 pub const GRID_BUFFER_TOO_SMALL: u32 = 10;
+
+/// "It refuses with 12, after 7 and before 8"
+pub const WINDOW_TOO_LARGE: u32 = 12;
+/// "when min(2 × radius + 1, w) × min(2 × radius + 1, h) exceeds 66,051"
+pub const WINDOW_LIMIT: u128 = 66_051;
+
+/// Returns that product.
+pub fn window(radius: usize, width: usize, height: usize) -> u128 {
+    let across = 2 * radius as u128 + 1;
+    across.min(width as u128) * across.min(height as u128)
+}
 
 pub fn side_too_large(g: Geometry) -> bool {
     g.width > 4096 || g.height > 4096

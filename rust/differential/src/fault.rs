@@ -1,6 +1,7 @@
 //! Plants faults in our side's answer. The self-test checks that the comparison reports each of them.
 
 use crate::case::{Buffer, Outcome, Places};
+use crate::limit::Limit;
 use crate::mistake::Mistake;
 use Fault::*;
 
@@ -28,6 +29,8 @@ pub enum Fault {
     Past(usize),
     /// What a mistake in the open tiles would leave or answer; the case works it out.
     Mistaken(Mistake),
+    /// What another limit of the narrow Sauvola's window would answer; the case works it out.
+    Limited(Limit),
 }
 
 /// Faults of a call that answers a number and is lent nothing.
@@ -90,7 +93,7 @@ impl Fault {
             Self::SpoiltCount(name) => !accepted && flip_count(outcome, name),
             Self::SpoiltBuffer(buffer) => !accepted && flip(outcome, Some((buffer, 0))),
             Self::Past(buffer) => flip_past(outcome, buffer),
-            Self::Mistaken(_) => false,
+            Self::Mistaken(_) | Self::Limited(_) => false,
         }
     }
 }
@@ -102,6 +105,7 @@ fn flip(outcome: &mut Outcome, place: Option<(usize, usize)>) -> bool {
     match outcome.lent.get_mut(buffer) {
         Some(Buffer::Bytes(bytes)) if at < bytes.len() => bytes[at] ^= 1,
         Some(Buffer::U64s(u64s)) if at < u64s.len() => u64s[at] ^= 1,
+        Some(Buffer::U32s(u32s)) if at < u32s.len() => u32s[at] ^= 1,
         Some(Buffer::U16s(u16s)) if at < u16s.len() => u16s[at] ^= 1,
         _ => return false,
     }
@@ -112,6 +116,7 @@ fn flip_past(outcome: &mut Outcome, buffer: usize) -> bool {
     match outcome.lent.get_mut(buffer) {
         Some(Buffer::Bytes(bytes)) => *bytes.past() ^= 1,
         Some(Buffer::U64s(u64s)) => *u64s.past() ^= 1,
+        Some(Buffer::U32s(u32s)) => *u32s.past() ^= 1,
         Some(Buffer::U16s(u16s)) => *u16s.past() ^= 1,
         None => return false,
     }

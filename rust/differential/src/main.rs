@@ -10,6 +10,7 @@ mod guard;
 mod laws;
 mod layouts;
 mod levels;
+mod limit;
 mod mistake;
 mod open;
 mod patterns;
@@ -39,6 +40,7 @@ subjects! {
     morphology
     illumination
     sauvola
+    narrow
     grid
     reading
     root
@@ -229,8 +231,13 @@ fn self_test() -> Result<(), String> {
     Ok(())
 }
 
+/// Returns the corners of a subject that only the long run reaches.
+fn left_out(subject: &Subject) -> impl Iterator<Item = Corner> + '_ {
+    subject.corners().filter(|&corner| !LEAST.asks(corner))
+}
+
 /// Leaves each corner of each subject out of the count, and checks that just this corner is reported as missing. It
-/// asks for the largest picture, as the long run does.
+/// asks for the corners of the largest picture, as the long run does, and counts one case at each.
 fn missed_corners() -> Result<usize, String> {
     let mut run = Run::default();
     for subject in subjects() {
@@ -241,8 +248,9 @@ fn missed_corners() -> Result<usize, String> {
         at_every_corner(&run, subject, &LEAST)?;
         for corner in subject.corners() {
             let mut less = Run { corners: run.corners.clone(), ..Run::default() };
+            less.corners.extend(left_out(subject).map(|corner| ((subject.name, corner), 1)));
             less.corners.remove(&(subject.name, corner));
-            let plan = Plan { large: corner == Corner::LargestPicture, ..LEAST };
+            let plan = Plan { large: true, ..LEAST };
             if less.unreached(subject, &plan) != [corner] || at_every_corner(&less, subject, &plan).is_ok() {
                 return Err(format!("self-test: {corner:?} of {} was not missed", subject.name));
             }

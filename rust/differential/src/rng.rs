@@ -39,8 +39,8 @@ impl Rng {
     }
 }
 
-/// The elements of buffers: bytes, u64s or u16s. Noise fills a buffer before a call; it is made from a seed alone, so
-/// that no copy has to be kept.
+/// The elements of buffers: bytes, u64s, u32s or u16s. Noise fills a buffer before a call; it is made from a seed alone,
+/// so that no copy has to be kept.
 pub trait Word: Copy + PartialEq + 'static {
     fn noise(len: usize, seed: u64) -> Vec<Self>;
 }
@@ -61,6 +61,13 @@ impl Word for u64 {
     fn noise(len: usize, seed: u64) -> Vec<u64> {
         let mut rng = Rng::new(seed);
         (0..len).map(|_| rng.next()).collect()
+    }
+}
+
+impl Word for u32 {
+    fn noise(len: usize, seed: u64) -> Vec<u32> {
+        let mut rng = Rng::new(seed);
+        (0..len).map(|_| rng.next() as u32).collect()
     }
 }
 

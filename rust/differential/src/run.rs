@@ -34,7 +34,7 @@ pub struct Plan {
 impl Plan {
     /// Tells whether a run has to reach a corner.
     pub fn asks(&self, corner: Corner) -> bool {
-        self.large || corner != Corner::LargestPicture
+        self.large || !matches!(corner, Corner::LargestPicture | Corner::OftenWrappedTable)
     }
 }
 

@@ -125,17 +125,12 @@ fn random(run: &mut Run, rng: &mut Rng) -> Checked {
     run.case(&Through::random(rng, op, width, height))
 }
 
-fn fixed(run: &mut Run, plan: &Plan) -> Checked {
+/// Runs all pictures of a few pixels and levels.
+pub fn small<O: Operator + Copy>(run: &mut Run, plan: &Plan, op: impl Fn(SauvolaConfig) -> O) -> Checked {
     let usual = SauvolaConfig::default();
-    let rust = theirs::SauvolaConfig::default();
-    same_defaults(
-        "sauvola_into",
-        (usual.radius, usual.k_milli, usual.dynamic_range, usual.dark_value, usual.light_value),
-        (rust.radius, rust.k_milli, rust.dynamic_range, rust.dark_value, rust.light_value),
-    )?;
     for radius in [1, 2, LARGEST_RADIUS] {
         for (k_milli, dynamic_range) in [(200, 128), (0, 1), (1000, 1), (1000, 128), (500, u32::MAX)] {
-            let op = Sauvola(SauvolaConfig { radius, k_milli, dynamic_range, ..usual });
+            let op = op(SauvolaConfig { radius, k_milli, dynamic_range, ..usual });
             let pixels = plan.two_levels.min(9);
             levels::all(pixels, &[0, 255], |src, w, h, seed| run.case(&Through::packed(op, src, w, h, seed)))?;
             levels::all(plan.three_levels, &[0, 1, 200], |src, w, h, seed| {
@@ -146,12 +141,24 @@ fn fixed(run: &mut Run, plan: &Plan) -> Checked {
     // Runs one pixel of each value, and each value beside the darkest and the lightest.
     for value in 0..=255 {
         for k_milli in [0, 1, 200, 999, 1000] {
-            let op = Sauvola(SauvolaConfig { k_milli, ..usual });
+            let op = op(SauvolaConfig { k_milli, ..usual });
             run.case(&Through::packed(op, vec![value], 1, 1, 2))?;
             run.case(&Through::packed(op, vec![value, 0], 2, 1, 2))?;
             run.case(&Through::packed(op, vec![255, value], 1, 2, 2))?;
         }
     }
+    Ok(())
+}
+
+fn fixed(run: &mut Run, plan: &Plan) -> Checked {
+    let usual = SauvolaConfig::default();
+    let rust = theirs::SauvolaConfig::default();
+    same_defaults(
+        "sauvola_into",
+        (usual.radius, usual.k_milli, usual.dynamic_range, usual.dark_value, usual.light_value),
+        (rust.radius, rust.k_milli, rust.dynamic_range, rust.dark_value, rust.light_value),
+    )?;
+    small(run, plan, Sauvola)?;
     let mut shapes = vec![(4096, 1), (1, 4096), (4096, 3), (640, 480)];
     if plan.large {
         shapes.push((4096, 4096));

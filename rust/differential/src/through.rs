@@ -5,6 +5,7 @@ use crate::corner::{self, Corner};
 use crate::document;
 use crate::guard::Guarded;
 use crate::layouts::{another_size, good, needed, picture, spoil};
+use crate::limit::Limit;
 use crate::rng::{Rng, Word};
 use crate::rust;
 use imgproc::{Geometry, Refusal};
@@ -21,7 +22,7 @@ pub trait Operator: Clone + Debug {
     /// True if the call gives the number of comparisons.
     const COUNTS: bool;
     fn name(&self) -> &'static str;
-    /// Returns the length of the workspace that document 01 asks for.
+    /// Returns the length of the workspace that documents 01 and 02 ask for.
     fn room(&self, width: usize, height: usize) -> usize;
     fn flat(
         &self, src: &[u8], s: Geometry, dst: &mut [u8], d: Geometry, workspace: &mut [Self::Word],
@@ -31,10 +32,26 @@ pub trait Operator: Clone + Debug {
         &self, src: &[u8], s: Geometry, dst: &mut [u8], d: Geometry, workspace: &mut [Self::Word],
     ) -> Result<u64, Refusal>;
     fn rust(&self, src: Gray8View<'_>, dst: Gray8ViewMut<'_>) -> ImgProcResult<()>;
+    /// Tells whether its settings, which are in range, are refused all the same over a picture of these sides.
+    fn too_large(&self, _width: usize, _height: usize) -> bool {
+        false
+    }
+    /// Compares what is expected, the destination or a refusal's number, with other computations of the same.
+    fn agrees(&self, _case: &Through<Self>, _expected: Result<&[u8], u32>) -> Result<(), String> {
+        Ok(())
+    }
+    /// Returns the number of the case for a call with this limit of the window, if its layouts and sizes are right.
+    fn limited(&self, _case: &Through<Self>, _limit: Limit) -> Option<u32> {
+        None
+    }
     /// Returns the comparisons of an accepted call; 0 if it gives none.
     fn comparisons(&self, width: usize, height: usize) -> Result<u64, String>;
     /// Returns the corners at which its settings stand over a picture of these sides.
     fn corners(&self, width: usize, height: usize) -> Vec<Corner>;
+    /// Returns the corners at which the pixels themselves stand.
+    fn filled(&self, _src: &[u8], _s: Geometry) -> Vec<Corner> {
+        vec![]
+    }
     fn simpler(&self) -> Vec<Self>;
     fn buffer(workspace: Guarded<Self::Word>) -> Buffer;
 }
@@ -91,6 +108,9 @@ impl<O: Operator> Through<O> {
         let mut swept = self.dst.clone();
         let dst = rust::view_mut(&mut swept, self.d)?;
         self.op.rust(src, dst).map_err(rust::imgproc)?;
+        if self.op.too_large(self.s.width, self.s.height) {
+            return Err(document::WINDOW_TOO_LARGE);
+        }
         if self.room < self.op.room(self.s.width, self.s.height) {
             return Err(document::WORKSPACE_TOO_SMALL);
         }
@@ -128,10 +148,12 @@ impl<O: Operator> Case for Through<O> {
 
     fn expected(&self) -> Result<Expected<'_>, String> {
         let src = Left::Bytes(Cow::Borrowed(self.src.as_slice()));
-        let (number, out, dst, workspace) = match self.decided() {
-            Ok(swept) => {
+        let decided = self.decided().map(|swept| self.painted(&swept));
+        self.op.agrees(self, decided.as_deref().map_err(|&number| number))?;
+        let (number, out, dst, workspace) = match decided {
+            Ok(painted) => {
                 let out = self.op.comparisons(self.s.width, self.s.height)?;
-                (0, out, Cow::Owned(self.painted(&swept)), Left::Open)
+                (0, out, Cow::Owned(painted), Left::Open)
             }
             Err(number) => (number, self.noise_number(), Cow::Borrowed(self.dst.as_slice()), Left::Noise(self.seed)),
         };
@@ -171,9 +193,15 @@ impl<O: Operator> Case for Through<O> {
         }
     }
 
+    fn limited(&self, limit: Limit, outcome: &mut Outcome) -> bool {
+        let number = self.op.limited(self, limit).unwrap_or(outcome.number);
+        std::mem::replace(&mut outcome.number, number) != number
+    }
+
     fn corners(&self) -> Vec<Corner> {
         let Geometry { width, height, .. } = self.s;
-        [corner::picture(width, height), self.op.corners(width, height)].concat()
+        let settings = self.op.corners(width, height);
+        [corner::picture(width, height), settings, self.op.filled(&self.src, self.s)].concat()
     }
 
     fn smaller(&self) -> Vec<Self> {

@@ -38,6 +38,7 @@ pub const READING: u64 = 19;
 pub const PROGRAM: u64 = 20;
 pub const BLANK: u64 = 21;
 pub const CLEAR: u64 = 22;
+pub const SAUVOLA_NARROW: u64 = 23;
 
 fn division(s: &[u64]) -> BackgroundDivideConfig {
     BackgroundDivideConfig {
@@ -175,7 +176,8 @@ fn values(n: &[u64], source: &Picture, destination: &mut Destination, open_tiles
             // The closing makes two passes. Raising the background to the floor is not counted.
             (2 * sweeps, background_divide_into(source.view(), destination.view(), &division(&n[7..]), workspace))
         }
-        SAUVOLA => {
+        // Both calls make what the Rust's makes.
+        SAUVOLA | SAUVOLA_NARROW => {
             let workspace = &mut ThresholdWorkspace::default();
             sauvola_into(source.view(), destination.view(), &sauvola(&n[7..]), workspace).expect("accepted");
             return vec![];

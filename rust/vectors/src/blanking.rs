@@ -38,7 +38,7 @@ impl Tiles {
         let before = if which == ROW_ALL_SKIP { vec![] } else { self.skips.clone() };
         Line {
             numbers: [&[which], &self.sizes[..], &[i as u64, j as u64]].concat(),
-            lengths: [0, before.len() as u64, 0, 0, 0, self.open_tiles.len() as u64],
+            lengths: [0, before.len() as u64, 0, 0, 0, self.open_tiles.len() as u64, 0],
             before,
             open_tiles: self.open_tiles.clone(),
             ..Line::default()

@@ -31,7 +31,7 @@ fn build(l: &mut List, picture: &Picture, tail: u64, tiles: Tiles) -> Answer {
     let count = width.div_ceil(tiles[0]) * rows;
     l.accepted(&Line {
         numbers: [&[BUILD, width, height, stride], &tiles[..]].concat(),
-        lengths: [picture.bytes.len() as u64, count + tail, count + tail, 0, 5 * count, rows + tail],
+        lengths: [picture.bytes.len() as u64, count + tail, count + tail, 0, 5 * count, rows + tail, 0],
         from: picture.bytes.clone(),
         ..Line::default()
     })
@@ -161,7 +161,7 @@ fn ask(l: &mut List, picture: &Picture, tile_width: usize, tile_height: usize, c
         ] {
             let sides = [picture.width, picture.height, tile_width, tile_height, grid.tiles_x(), grid.tiles_y(), x, y];
             let numbers = [&[which], &sides.map(|side| side as u64)[..]].concat();
-            let lengths = [from.len(), 0, 0, 0, 0, open_tiles.len()].map(|length| length as u64);
+            let lengths = [from.len(), 0, 0, 0, 0, open_tiles.len(), 0].map(|length| length as u64);
             let (from, open_tiles) = (from.to_vec(), open_tiles.to_vec());
             let line = Line { numbers, lengths, from, open_tiles, ..Line::default() };
             assert_eq!(l.accepted(&line).values, [u64::from(answer)]);

@@ -50,13 +50,13 @@ type Picture = [u64; 4];
 fn line(which: u64, [length, width, height, stride]: Picture, others: &[u64], second: u64) -> Line {
     let numbers = [&[which, width, height, stride], others].concat();
     let [from, to] = if [SET, ROW_MUT, UNPACK].contains(&which) { [second, length] } else { [length, second] };
-    Line { numbers, lengths: [from, to, 0, 0, 0, 0], ..Line::default() }
+    Line { numbers, lengths: [from, to, 0, 0, 0, 0, 0], ..Line::default() }
 }
 
 /// Writes each call that takes a place. The other slice of a row call has a byte more than the row.
 fn place(l: &mut List, picture: Picture, x: u64, y: u64, pixel: u64, row: u64) {
     let [length, width, _, _] = picture;
-    let checked = |which, others: &[u64]| Line { lengths: [0; 6], ..line(which, picture, others, 0) };
+    let checked = |which, others: &[u64]| Line { lengths: [0; 7], ..line(which, picture, others, 0) };
     l.answered(&checked(CHECK_PIXEL, &[length, x, y]), pixel);
     l.answered(&checked(CHECK_ROW, &[length, y]), row);
     if length > LENT {
@@ -81,7 +81,7 @@ pub fn layouts() -> List {
     from_table("layouts", include_str!("../hand/layouts.txt"), what, |l, row| {
         let picture: Picture = row.numbers();
         let [number] = row.numbers();
-        l.answered(&Line { lengths: [0; 6], ..line(LAYOUT, picture, &[picture[FROM]], 0) }, number);
+        l.answered(&Line { lengths: [0; 7], ..line(LAYOUT, picture, &[picture[FROM]], 0) }, number);
         place(l, picture, 0, 0, number, number);
         if picture[FROM] <= LENT && number != 0 {
             plane(l, picture, 64, 0, number);

@@ -1,5 +1,5 @@
 //! Writes a list of cases, which crates/pictures replays. A line has these sections, separated by ';': the call and its
-//! numbers; the lengths of the six lent slices; the number and the values of the answer; the bytes of the first slice
+//! numbers; the lengths of the seven lent slices; the number and the values of the answer; the bytes of the first slice
 //! before the call, of the second before it, of the second after it, and of the third after it; the numbers of the
 //! count buffer before the call and after it. A slice whose bytes before the call do not stand in the line holds noise.
 
@@ -8,13 +8,14 @@ use crate::picture::{noise, states};
 use std::fmt::Write;
 
 /// The places of the slices among the lengths: a source, a destination, another destination, the byte workspace, the
-/// u64 workspace and the count buffer.
+/// u64 workspace, the count buffer and the u32 workspace.
 pub const FROM: usize = 0;
 pub const TO: usize = 1;
 pub const OTHER: usize = 2;
 pub const BYTES: usize = 3;
 pub const U64S: usize = 4;
 pub const U16S: usize = 5;
+pub const U32S: usize = 6;
 
 /// The longest slice whose contents after a call are listed.
 const LISTED: usize = 300;
@@ -24,7 +25,7 @@ const LISTED: usize = 300;
 #[derive(Clone, Default)]
 pub struct Line {
     pub numbers: Vec<u64>,
-    pub lengths: [u64; 6],
+    pub lengths: [u64; 7],
     pub from: Vec<u8>,
     pub before: Vec<u8>,
     pub open_tiles: Vec<u16>,
@@ -140,10 +141,12 @@ impl List {
         );
     }
 
-    /// Writes a line. A call that is lent no count buffer has no length of one.
+    /// Writes a line. A call that is lent no u32s has no length of them, and one that is lent no count buffer either
+    /// has no length of one.
     fn write(&mut self, line: &Line, number: u64, values: &[u64], after: &Written) {
         self.cases += 1;
-        let lent = if line.lengths[U16S] == 0 { U16S } else { line.lengths.len() };
+        let last = [U32S, U16S].into_iter().find(|&slice| line.lengths[slice] != 0);
+        let lent = last.map_or(U16S, |slice| slice + 1);
         let sections = [
             line.numbers.clone(),
             line.lengths[..lent].to_vec(),

@@ -10,6 +10,7 @@ mod conditions;
 mod grids;
 mod hand;
 mod list;
+mod narrow;
 mod open;
 mod picture;
 mod program;
@@ -24,7 +25,7 @@ use std::path::Path;
 use std::process::exit;
 use std::{env, fs};
 
-const LISTS: [(&str, fn() -> List); 22] = [
+const LISTS: [(&str, fn() -> List); 24] = [
     ("layouts", hand::layouts),
     ("places", hand::places),
     ("planes", hand::planes),
@@ -35,9 +36,11 @@ const LISTS: [(&str, fn() -> List); 22] = [
     ("morphology", stored::morphology),
     ("division", stored::division),
     ("sauvola", stored::sauvola),
+    ("sauvola_narrow", narrow::sauvola),
     ("morphology_refusals", refusals::morphology),
     ("division_refusals", refusals::division),
     ("sauvola_refusals", refusals::sauvola),
+    ("sauvola_narrow_refusals", narrow::refusals),
     ("grid", grids::grid),
     ("grid_refusals", refusals::grid),
     ("queries", grids::queries),

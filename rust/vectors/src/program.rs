@@ -21,7 +21,7 @@ const PROGRAM: Lent = Lent { destination: 3600, bytes: 32_432, u64s: 7522, out: 
 /// Writes a case. A picture is marked in the destination; if the input is none, the destination and the workspaces stay
 /// as they were.
 fn case(l: &mut List, input: &[u8], lent: Lent, line: &str, marked: Option<&[u8]>) {
-    let lengths = [input.len(), lent.destination, lent.out, lent.bytes, lent.u64s, 0].map(|length| length as u64);
+    let lengths = [input.len(), lent.destination, lent.out, lent.bytes, lent.u64s, 0, 0].map(|length| length as u64);
     let numbers = vec![asked::PROGRAM, u64::from(marked.is_none())];
     l.printed(&Line { numbers, lengths, from: input.to_vec(), ..Line::default() }, line, marked);
 }

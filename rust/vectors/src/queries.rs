@@ -25,7 +25,7 @@ pub fn queries() -> List {
     // A picture of 8 by 7 in tiles of 3 by 2 has 3 by 4 of them. The numbers: sides, tile sides, tile counts, x, y.
     let query = |numbers: [u64; 8], [bytes, rows]: [u64; 2]| Line {
         numbers: [&[0], &numbers[..]].concat(),
-        lengths: [bytes, 0, 0, 0, 0, rows],
+        lengths: [bytes, 0, 0, 0, 0, rows, 0],
         ..Line::default()
     };
     let good = query([8, 7, 3, 2, 3, 4, 7, 6], [12, 4]);
@@ -83,7 +83,7 @@ const ROW: usize = 8;
 /// Makes a call on a tile, with as many skip bytes and numbers of open tiles.
 fn tile(numbers: [u64; 8], [bytes, rows]: [u64; 2]) -> Line {
     let numbers = [&[0], &numbers[..]].concat();
-    Line { numbers, lengths: [0, bytes, 0, 0, 0, rows], ..Line::default() }
+    Line { numbers, lengths: [0, bytes, 0, 0, 0, rows, 0], ..Line::default() }
 }
 
 /// Writes both calls on one tile.

@@ -6,27 +6,27 @@ use crate::conditions::{
     bad, combined, layout, lent, limits, numbered, pictured, pictures, short, Condition, DESTINATION, SOURCE,
 };
 use crate::grids::TILES;
-use crate::list::{Line, List, BYTES, OTHER, TO, U16S, U64S};
+use crate::list::{Line, List, BYTES, OTHER, TO, U16S, U32S, U64S};
 use crate::readings::{kernels, READINGS, WINDOW};
 use crate::stored::room;
 
 /// The place of an operator's first setting.
-const SETTINGS: usize = 7;
+pub const SETTINGS: usize = 7;
 
 const ODD: [u64; 4] = [3, 5, 4097, u64::MAX];
 const EVEN_OR_SMALL: [u64; 6] = [0, 1, 2, 4, 4096, u64::MAX - 1];
 
 /// Makes a call on pictures of 4 by 3 with two strides, each slice as short as it may be.
-fn operator(which: u64, settings: &[u64]) -> Line {
-    let [bytes, u64s, rows] = room(which, 4, 3, settings);
+pub fn operator(which: u64, settings: &[u64]) -> Line {
+    let [bytes, u64s, rows, u32s] = room(which, 4, 3, settings);
     let numbers = [&[which, 4, 3, 5, 4, 3, 6], settings].concat();
-    Line { numbers, lengths: [14, 16, 0, bytes, u64s, rows], ..Line::default() }
+    Line { numbers, lengths: [14, 16, 0, bytes, u64s, rows, u32s], ..Line::default() }
 }
 
 /// Makes a call on two packed pictures of one size.
-fn packed(which: u64, width: u64, height: u64, settings: &[u64]) -> Line {
-    let [bytes, u64s, rows] = room(which, width, height, settings);
-    let line = Line { lengths: [0, 0, 0, bytes, u64s, rows], ..operator(which, settings) };
+pub fn packed(which: u64, width: u64, height: u64, settings: &[u64]) -> Line {
+    let [bytes, u64s, rows, u32s] = room(which, width, height, settings);
+    let line = Line { lengths: [0, 0, 0, bytes, u64s, rows, u32s], ..operator(which, settings) };
     let picture = [width * height, width, height, width];
     pictured(&pictured(&line, SOURCE, picture), DESTINATION, picture)
 }
@@ -70,19 +70,20 @@ fn rooms(l: &mut List, which: u64, settings: &[u64], slice: usize) {
 
 const BY_HAND: &str =
     "The numbers are document 01's, and of several conditions the earliest counts: no program was asked.";
-/// The same of calls that are lent a count buffer.
+/// The same of calls to which document 02 adds.
 pub const BY_BOTH: &str =
     "The numbers are documents 01's and 02's, and of several conditions the earliest counts: no program was asked.";
-const KEEPS: &str = "A refused call leaves every slice as it was. What accepted calls answer is the published Rust's, \
+pub const KEEPS: &str =
+    "A refused call leaves every slice as it was. What accepted calls answer is the published Rust's, \
     aukilabs/qr-lab at c99d6ca466.";
-const LAYOUTS: &str = "1 to 4 the source's layout, then the destination's; 5 sizes;";
+pub const LAYOUTS: &str = "1 to 4 the source's layout, then the destination's; 5 sizes;";
 
 fn refusals(name: &str, head: &[&str]) -> List {
     List::new(name, &[head, &[BY_HAND, KEEPS]].concat())
 }
 
 /// Writes all refusals of one operator, and then its settings' limits.
-fn all(l: &mut List, good: &Line, settings: Vec<Condition>, slice: usize, limits: impl Fn(&mut List, &Line)) {
+pub fn all(l: &mut List, good: &Line, settings: Vec<Condition>, slice: usize, limits: impl Fn(&mut List, &Line)) {
     let mut conditions = pictures();
     conditions.extend(settings);
     conditions.push(short(8, "the workspace", slice));
@@ -163,7 +164,7 @@ pub fn grid() -> List {
     let head = "Refusals of the grid's build, call 15: width height stride of the source,";
     let mut l = List::new("grid_refusals", &[head, TILES, numbers, rooms, BY_BOTH, KEEPS]);
     let numbers = vec![BUILD, 4, 3, 5, 2, 2, 1, 12, 1, 0.2f64.to_bits(), 128f64.to_bits(), 0];
-    let good = Line { numbers, lengths: [14, 4, 4, 0, 20, 2], ..Line::default() };
+    let good = Line { numbers, lengths: [14, 4, 4, 0, 20, 2, 0], ..Line::default() };
     let mut conditions = layout("source", SOURCE);
     conditions.extend([bad(7, "the tile width", 4, 0), bad(7, "the tile height", 5, 0)]);
     conditions.extend([bad(7, "k", K, f64::INFINITY.to_bits()), bad(7, "the range", RANGE, 0)]);
@@ -197,7 +198,7 @@ pub fn grid() -> List {
             let sized = pictured(&good, SOURCE, [width * height, width, height, width]);
             let mut exact = numbered(&numbered(&numbered(&sized, 4, tile_width), 5, tile_height), METHOD, method);
             let rows = height.div_ceil(tile_height);
-            exact.lengths[1..].copy_from_slice(&[tiles, tiles, 0, 5 * tiles, rows]);
+            exact.lengths[1..U32S].copy_from_slice(&[tiles, tiles, 0, 5 * tiles, rows]);
             l.answered(&exact, 0);
             l.refused(&lent(&exact, U64S, 5 * tiles - 1), 8);
             for (slice, length) in [(TO, tiles), (OTHER, tiles), (U16S, rows)] {
@@ -207,7 +208,7 @@ pub fn grid() -> List {
             l.refused(&lent(&none, U64S, 0), 8);
             l.refused(&none, 10);
             let mut longer = exact;
-            longer.lengths[1..].copy_from_slice(&[tiles + 2, tiles + 1, 0, 5 * tiles + 3, rows + 3]);
+            longer.lengths[1..U32S].copy_from_slice(&[tiles + 2, tiles + 1, 0, 5 * tiles + 3, rows + 3]);
             l.answered(&longer, 0);
         }
     }

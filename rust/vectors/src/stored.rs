@@ -1,6 +1,6 @@
 //! Makes the lists of the operators from a source to a destination.
 
-use crate::asked::{CLOSE, DILATE, DIVIDE, ERODE, OPEN, SAUVOLA};
+use crate::asked::{CLOSE, DILATE, DIVIDE, ERODE, OPEN, SAUVOLA, SAUVOLA_NARROW};
 use crate::list::{Answer, Line, List};
 use crate::picture::{noise, Picture};
 
@@ -10,17 +10,19 @@ pub const EXACT: &str = "The workspaces are as short as they may be.";
 pub const OPEN_TILES: &str =
     "The open tiles, which the Rust does not count, are counted from its skips (rust/vectors/src/open.rs).";
 
-/// Returns the lengths of the two workspaces of an operator and of its count buffer, by documents 01 and 02.
-pub fn room(which: u64, width: u64, height: u64, settings: &[u64]) -> [u64; 3] {
+/// Returns the lengths of what an operator is lent beside its pictures, by documents 01 and 02: bytes, u64s, a count
+/// buffer and u32s.
+pub fn room(which: u64, width: u64, height: u64, settings: &[u64]) -> [u64; 4] {
     let (area, table) = (width * height, 2 * (width + 1) * (height + 1));
     match which {
-        ERODE..=CLOSE => [6 * area, 0, 0],
-        DIVIDE => [7 * area, 0, 0],
-        SAUVOLA => [0, table, 0],
+        ERODE..=CLOSE => [6 * area, 0, 0, 0],
+        DIVIDE => [7 * area, 0, 0, 0],
+        SAUVOLA => [0, table, 0, 0],
+        SAUVOLA_NARROW => [0, 0, 0, table],
         _ => {
             let rows = height.div_ceil(settings[5]);
             let tiles = width.div_ceil(settings[4]) * rows;
-            [9 * area + 2 * tiles, table + 5 * tiles, rows]
+            [9 * area + 2 * tiles, table + 5 * tiles, rows, 0]
         }
     }
 }
@@ -29,12 +31,12 @@ pub fn room(which: u64, width: u64, height: u64, settings: &[u64]) -> [u64; 3] {
 /// tail.
 pub fn asked(l: &mut List, which: u64, picture: &Picture, stride: usize, tail: usize, settings: &[u64]) -> Answer {
     let [width, height, from] = [picture.width, picture.height, picture.stride].map(|side| side as u64);
-    let [bytes, u64s, rows] = room(which, width, height, settings);
+    let [bytes, u64s, rows, u32s] = room(which, width, height, settings);
     let rows = if rows == 0 { 0 } else { rows + tail as u64 };
     let to = stride * (picture.height - 1) + picture.width + tail;
     l.accepted(&Line {
         numbers: [&[which, width, height, from, width, height, stride as u64], settings].concat(),
-        lengths: [picture.bytes.len() as u64, to as u64, 0, bytes, u64s, rows],
+        lengths: [picture.bytes.len() as u64, to as u64, 0, bytes, u64s, rows, u32s],
         from: picture.bytes.clone(),
         ..Line::default()
     })
@@ -155,21 +157,30 @@ fn strokes(width: usize, height: usize) -> Vec<u8> {
 }
 
 pub fn sauvola() -> List {
-    let usual: &[u64] = &[8, 200, 128, 0, 255];
-    let window = |radius: u64, k: u64, range: u64| vec![radius, k, range, 0, 255];
     let head = "Sauvola, call 14: width height stride of both pictures, radius k-milli dynamic-range dark light.";
     let mut list = List::new("sauvola", &[head, RUST, EXACT]);
-    let l = &mut list;
+    judged(&mut list, SAUVOLA);
+    list
+}
+
+/// Returns settings with the usual values for dark and light.
+pub fn window(radius: u64, k: u64, range: u64) -> Vec<u64> {
+    vec![radius, k, range, 0, 255]
+}
+
+/// Writes the pictures of Sauvola's calls.
+pub fn judged(l: &mut List, which: u64) {
+    let usual: &[u64] = &[8, 200, 128, 0, 255];
     l.comment("document 01's pixels, and its row of threshold 95");
-    assert_eq!(asked(l, SAUVOLA, &Picture::row(&[0]), 1, 0, usual).left.to, [0]);
-    assert_eq!(asked(l, SAUVOLA, &Picture::row(&[1]), 1, 0, usual).left.to, [255]);
-    assert_eq!(asked(l, SAUVOLA, &Picture::row(&[0, 200]), 2, 0, usual).left.to, [0, 255]);
+    assert_eq!(asked(l, which, &Picture::row(&[0]), 1, 0, usual).left.to, [0]);
+    assert_eq!(asked(l, which, &Picture::row(&[1]), 1, 0, usual).left.to, [255]);
+    assert_eq!(asked(l, which, &Picture::row(&[0, 200]), 2, 0, usual).left.to, [0, 255]);
     l.comment("around that threshold, in a window of its mean and spread");
-    asked(l, SAUVOLA, &Picture::row(&[0, 200, 95, 105]), 4, 0, &window(3, 200, 128));
-    asked(l, SAUVOLA, &Picture::row(&[0, 200, 94, 106]), 4, 0, &window(3, 200, 128));
+    asked(l, which, &Picture::row(&[0, 200, 95, 105]), 4, 0, &window(3, 200, 128));
+    asked(l, which, &Picture::row(&[0, 200, 94, 106]), 4, 0, &window(3, 200, 128));
     let mut all = |what: &str, picture: &Picture, stride: usize, tail: usize, settings: &[Vec<u64>]| {
         let settings: Vec<&[u64]> = settings.iter().map(Vec::as_slice).collect();
-        each(l, what, SAUVOLA, picture, stride, tail, &settings);
+        each(l, what, which, picture, stride, tail, &settings);
     };
     let nearly = Picture::row(&[255, 255, 255, 255, 254, 255, 255, 255, 255, 255]);
     all("document 01's nine of 255 and one of 254", &nearly, 10, 0, &[window(9, 200, 128)]);
@@ -193,5 +204,4 @@ pub fn sauvola() -> List {
     all("black and white by turns: thresholds above 255", &Picture::packed(6, 4, &board), 6, 0, &spread);
     let rough = [usual.to_vec(), window(2, 200, 128), window(3, 500, 30)];
     all("noise", &Picture::new(7, 7, 8, 0, &noise(49, 23)), 7, 1, &rough);
-    list
 }
