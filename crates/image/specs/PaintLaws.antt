@@ -1,7 +1,7 @@
 -- Rows written one after another: a destination whose first y rows are painted, and a workspace that holds the first y
 -- rows packed. Assumes nothing.
 use Rattle.std.specs.Prelude.{ℕ, zero, suc, ◌+◌, ◌-◌, ◌*◌, ◌/◌, ◌%◌, ◌≤◌, ◌<◌, ◌≡◌, refl, Bool, true, false, cond, ◌&&◌, List, [], ◌∷◌, ◌++◌, ◌⊎◌, ltb, get_or, take, drop}
-use Rattle.std.proofs.Common.{div-add-mod', mod-lt, suc-mul, mul-le-mul_right, mul_comm, zero-add, eq-or-lt_of_le, mul-zero, add-zero, arith, add-one, ◌∙◌, append_assoc, inl, inr, ⊎_elim, length-append, take-append-drop, get_or-append-add, take_at, drop_at, drop-drop, length-take-le, lt-ltb, le-ltb}
+use Rattle.std.proofs.Common.{div-add-mod', mod-lt, suc-mul, mul-le-mul_right, mul_comm, zero-add, eq-or-lt_of_le, mul-zero, arith, add-one, ◌∙◌, append_assoc, inl, inr, ⊎_elim, length-append, get_or-append-add, take_at, drop_at, drop-drop, length-take-le, lt-ltb, le-ltb}
 use Rattle.std.proofs.Math.Decide.{dec_lt, ℕ_discrete}
 use Rattle.std.proofs.Math.Path.{ap, sym}
 use Rattle.std.proofs.Math.Arith.{digits_div, digits_mod}
@@ -17,6 +17,7 @@ use Rattle.image.specs.PlaneLaws.{
   overwritten_before,
   overwritten_within,
   overwritten_after,
+  overwritten_none,
 }
 
 -- a part from a to e that was lent to a call, and came back as r, is r written at a
@@ -81,9 +82,7 @@ module _ (p : List ℕ) (w st y : ℕ) (d r : List ℕ) (ws : w ≤ st) (sp : 0 
   -- a byte outside the row is as it was
   outside : (i : ℕ) → (i < y * st) ⊎ (y * st + w ≤ i) → get_or (overwritten (y * st) r before) i 0 ≡ get_or before i 0
   outside i (inl t) = overwritten_before (y * st) r before (omega (arith, size)) i t
-  outside i (inr t) =
-      let e : y * st + length r + (i - (y * st + length r)) ≡ i = omega arith in
-      rw e at (overwritten_after (y * st) r before (omega (arith, size)) (i - (y * st + length r)))
+  outside i (inr t) = overwritten_after (y * st) r before (omega (arith, size)) i (omega arith)
 
   module _ (i : ℕ) (t : i < length d) where
     old : (i < y * st) ⊎ (y * st + w ≤ i) → get_or (overwritten (y * st) r before) i 0 ≡ painted_at p w y st i (get_or d i 0)
@@ -184,7 +183,7 @@ overwritten_more at p r d fits =
 
 -- writing a plane of no rows changes nothing
 pub plane_start : (w : ℕ) (f : ℕ → ℕ → ℕ) (at : ℕ) (d : List ℕ) → overwritten at (plane w 0 f) d ≡ d
-plane_start w f at d = rw (plane_none, add-zero) (take-append-drop at d)
+plane_start w f at d = rw plane_none (overwritten_none at d)
 
 -- writing row y right after the first y rows of a plane is writing y + 1 rows
 pub plane_more : (w : ℕ) (f : ℕ → ℕ → ℕ) (y at : ℕ) (d r : List ℕ) → 0 < w → at + (y * w + w) ≤ length d → length r ≡ w

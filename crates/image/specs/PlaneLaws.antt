@@ -1,7 +1,7 @@
 -- Laws of tabulated lists, of packed pictures and of parts: how long each is, and what it holds at each place. Assumes
 -- nothing.
-use Rattle.std.specs.Prelude.{◌≡◌, refl, List, ℕ, zero, suc, ◌+◌, ◌*◌, ◌/◌, ◌%◌, ◌≤◌, ◌<◌, length, get_or, take, drop}
-use Rattle.std.proofs.Common.{sym, ap, ap₂, ◌∙◌, le_of_suc-le-suc, not-suc-le-zero, add-zero, zero-add, mod-lt, div-add-mod', div-lt_iff_lt-mul, mul_comm, mul-le-mul_right, suc-mul, arith, length-append, length-take, length-drop, ext_get_or, length-take-le, get_or-append-add, get_or-take, get_or-drop}
+use Rattle.std.specs.Prelude.{◌≡◌, refl, List, [], ◌++◌, ℕ, zero, suc, ◌+◌, ◌-◌, ◌*◌, ◌/◌, ◌%◌, ◌≤◌, ◌<◌, length, get_or, take, drop}
+use Rattle.std.proofs.Common.{sym, ap, ap₂, ◌∙◌, le_of_suc-le-suc, not-suc-le-zero, add-zero, zero-add, mod-lt, div-add-mod', div-lt_iff_lt-mul, mul_comm, mul-le-mul_right, suc-mul, arith, length-append, length-take, length-drop, take-append-drop, ext_get_or, length-take-le, get_or-append-add, get_or-take, get_or-drop}
 use Rattle.std.proofs.Math.ListN.{get_or-append}
 use Rattle.std.proofs.Math.Arith.{digits_mod, digits_div}
 use Rattle.image.specs.Plane.{tabulate_from, tabulate, plane, pixel, packed, part, overwritten}
@@ -33,6 +33,10 @@ get_d_tabulate f n i h = get_d_tabulate_from f 0 n i h ∙ ap f (zero-add i)
 pub in_plane : (w h x y : ℕ) → x < w → y < h → y * w + x < w * h
 in_plane w h x y X Y = omega (arith, mul-le-mul_right w Y, suc-mul y w, mul_comm w h)
 
+-- the number at i lies in one of its rows
+pub in_row : (w h i : ℕ) → 0 < w → i < w * h → i / w < h
+in_row w h i W t = (div-lt_iff_lt-mul W).1 (omega (arith, mul_comm w h))
+
 pub length-plane : (w h : ℕ) (f : ℕ → ℕ → ℕ) → length (plane w h f) ≡ w * h
 unfolding plane
 length-plane w h f = length-tabulate (λ i. f (i % w) (i / w)) (w * h)
@@ -60,9 +64,8 @@ is_plane w h f q W l each = ext_get_or 0 q (plane w h f) (l ∙ sym (length-plan
     at : (i : ℕ) → i < length q → get_or q i 0 ≡ get_or (plane w h f) i 0
     at i b =
         let c : i < w * h = omega arith in
-        let y : i / w < h = (div-lt_iff_lt-mul W).1 (omega (arith, mul_comm w h)) in
         ap (λ (n : ℕ). get_or q n 0) (sym (div-add-mod' i w))
-        ∙ each (i % w) (i / w) (mod-lt i W) y
+        ∙ each (i % w) (i / w) (mod-lt i W) (in_row w h i W c)
         ∙ sym (get_d_plane w h f i c)
 
 -- two packed pictures with the same pixels are the same
@@ -134,13 +137,21 @@ module _ (at : ℕ) (p d : List ℕ) (fits : at + length p ≤ length d) where
       ∙ get_or-append-add (take at d) _ i 0
       ∙ get_or-append p _ 0 i t
 
-  -- a number after them is as it was
-  pub overwritten_after : (i : ℕ) → get_or (overwritten at p d) (at + length p + i) 0 ≡ get_or d (at + length p + i) 0
-  overwritten_after i =
+  behind : (i : ℕ) → get_or (overwritten at p d) (at + length p + i) 0 ≡ get_or d (at + length p + i) 0
+  behind i =
       ap (λ (k : ℕ). get_or (overwritten at p d) k 0) (omega (arith, front))
       ∙ get_or-append-add (take at d) _ (length p + i) 0
       ∙ get_or-append-add p _ i 0
       ∙ get_or-drop (at + length p) d i 0
+
+  -- a number after them is as it was
+  pub overwritten_after : (i : ℕ) → at + length p ≤ i → get_or (overwritten at p d) i 0 ≡ get_or d i 0
+  overwritten_after i t =
+      let e : at + length p + (i - (at + length p)) ≡ i = omega arith in rw e at (behind (i - (at + length p)))
+
+-- writing no numbers changes nothing
+pub overwritten_none : (at : ℕ) (d : List ℕ) → overwritten at [] d ≡ d
+overwritten_none at d = ap (λ (k : ℕ). take at d ++ drop k d) (add-zero at) ∙ take-append-drop at d
 
 -- the part that was written is p
 pub part_overwritten : (at : ℕ) (p d : List ℕ) → at + length p ≤ length d → part at (length p) (overwritten at p d) ≡ p

@@ -1,11 +1,11 @@
--- For a loop that writes a tabulated list from `at` on, one number after another: one law for each need of its proof.
--- Assumes nothing.
+-- For code that writes a list from `at` on, one number after another: one law for each need of its proof. Assumes
+-- nothing.
 use Rattle.std.specs.Prelude.{◌≡◌, List, [], ◌∷◌, ◌++◌, ℕ, ◌+◌, ◌≤◌, ◌<◌, length, get_or, take, drop, set}
-use Rattle.std.proofs.Common.{sym, ap, ap₂, ◌∙◌, ⊎_elim, add-zero, eq-or-lt_of_le, add-one, arith, length-append, take-append-drop, ext_get_or, get_or-append-add}
+use Rattle.std.proofs.Common.{sym, ap, ap₂, ◌∙◌, ⊎_elim, eq-or-lt_of_le, add-one, arith, length-append, ext_get_or, get_or-append-add}
 use Rattle.std.proofs.Math.ListN.{get_or-append}
 use Rattle.std.proofs.lemmas.List.{set_split}
 use Rattle.image.specs.Plane.{tabulate, overwritten}
-use Rattle.image.specs.PlaneLaws.{length-tabulate, get_d_tabulate, length-overwritten}
+use Rattle.image.specs.PlaneLaws.{length-tabulate, get_d_tabulate, length-overwritten, overwritten_none}
 use Rattle.image.specs.PaintLaws.{overwritten_more}
 
 -- storing one number is writing a list of one
@@ -35,19 +35,25 @@ tabulate_more f t =
 -- before the first number nothing is written
 pub written_none : (f : ℕ → ℕ) (at : ℕ) (d : List ℕ) → d ≡ overwritten at (tabulate f 0) d
 unfolding tabulate
-written_none f at d = sym (ap (λ (k : ℕ). take at d ++ drop k d) (add-zero at) ∙ take-append-drop at d)
+written_none f at d = sym (overwritten_none at d)
+
+-- storing a number after a list that was written writes both
+pub written_next : (at : ℕ) (p : List ℕ) (v : ℕ) (d e : List ℕ) → at + length p < length d → e ≡ overwritten at p d
+    → set e (at + length p) v ≡ overwritten at (p ++ (v ∷ [])) d
+written_next at p v d e h is =
+    let fits : at + length p ≤ length d = omega arith in
+    let w = overwritten at p d in
+    ap (λ (x : List ℕ). set x (at + length p) v) is
+    ∙ set_is w (at + length p) v (omega (arith, length-overwritten at p d fits))
+    ∙ overwritten_more at p (v ∷ []) d fits
 
 -- storing the number t after the first t writes t + 1 of them
 pub written_more : (f : ℕ → ℕ) (at t v : ℕ) (d e : List ℕ) → at + t < length d → e ≡ overwritten at (tabulate f t) d
     → v ≡ f t → set e (at + t) v ≡ overwritten at (tabulate f (t + 1)) d
 written_more f at t v d e h p q =
     let n = length-tabulate f t in
-    let fits : at + length (tabulate f t) ≤ length d = omega arith in
-    let w = overwritten at (tabulate f t) d in
-    ap₂ (λ (x : List ℕ) (y : ℕ). set x (at + t) y) p q
-    ∙ set_is w (at + t) (f t) (omega (arith, length-overwritten at (tabulate f t) d fits))
-    ∙ ap (λ (k : ℕ). overwritten (at + k) (f t ∷ []) w) (sym n)
-    ∙ overwritten_more at (tabulate f t) (f t ∷ []) d fits
+    ap₂ (λ (k u : ℕ). set e (at + k) u) (sym n) q
+    ∙ written_next at (tabulate f t) (f t) d e (omega arith) p
     ∙ ap (λ (l : List ℕ). overwritten at l d) (tabulate_more f t)
 
 -- the list keeps its length

@@ -1,6 +1,6 @@
 -- Laws of open tiles: the stored skip bytes count to what the definition says, and a row has none exactly when all its
 -- tiles are skipped. Assumes nothing.
-use Rattle.std.specs.Prelude.{◌≡◌, refl, ℕ, zero, suc, ◌+◌, ◌-◌, ◌*◌, ◌/◌, ◌%◌, ◌≤◌, ◌<◌, List, length, get_or}
+use Rattle.std.specs.Prelude.{◌≡◌, refl, ℕ, zero, suc, ◌+◌, ◌*◌, ◌/◌, ◌%◌, ◌≤◌, ◌<◌, List, length, get_or}
 use Rattle.std.specs.Prelude.{Bool, true, false, not, ◌&&◌, eqb}
 use Rattle.std.proofs.Common.{sym, ap, ap₂, ◌∙◌, arith, ne_eqb, zero-add}
 use Rattle.std.proofs.Math.Arith.{digits_mod, digits_div}
@@ -94,11 +94,7 @@ module _ (g : TileThresholdConfig) (w h : ℕ) (p : List ℕ) where
     -- the numbers after them stay
     pub later_number : (j : ℕ) → ty ≤ j → get_or (overwritten 0 (open_tiles g w h p) d) j 0 ≡ get_or d j 0
     later_number j J =
-        let n = length (open_tiles g w h p) in
-        let e : j ≡ 0 + n + (j - n) = omega (arith, open_tiles_long) in
-        ap (λ (k : ℕ). get_or (overwritten 0 (open_tiles g w h p) d) k 0) e
-        ∙ overwritten_after 0 (open_tiles g w h p) d (omega (arith, open_tiles_long)) (j - n)
-        ∙ ap (λ (k : ℕ). get_or d k 0) (sym e)
+        overwritten_after 0 (open_tiles g w h p) d (omega (arith, open_tiles_long)) j (omega (arith, open_tiles_long))
 
 -- ---- no tile is open exactly when all are skipped
 

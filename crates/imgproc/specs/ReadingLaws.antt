@@ -2,13 +2,13 @@
 -- comparisons stay below 24wh, and what its checks say where they accept. Assumes nothing.
 use Rattle.std.specs.Prelude.{Ok}
 use Rattle.std.specs.Prelude.{◌≡◌, refl, Bool, true, false, ◌||◌, ltb, List, ℕ, zero, suc, ◌+◌, ◌*◌, ◌/◌, ◌%◌, ◌≤◌, ◌<◌}
-use Rattle.std.proofs.Common.{sym, ap, ap₂, ◌∙◌, eq-or-lt_of_le, mod-lt, div-lt_iff_lt-mul, mul_comm, arith, ⊎_elim}
+use Rattle.std.proofs.Common.{sym, ap, ap₂, ◌∙◌, eq-or-lt_of_le, mod-lt, mul_comm, arith, ⊎_elim}
 use Rattle.std.proofs.Common.{ltb-false}
 use Rattle.std.proofs.Common.{mul-zero, mul-one, mul-add, add-zero, add-suc}
 use Rattle.std.proofs.Math.Arith.{digits_mod, digits_div}
 use Rattle.image.specs.declared.Geometry.{Geometry}
 use Rattle.image.specs.LayoutLaws.{neither}
-use Rattle.image.specs.PlaneLaws.{in_plane}
+use Rattle.image.specs.PlaneLaws.{in_plane, in_row}
 use Rattle.imgproc.specs.declared.reading.config.ReadingConfig.{ReadingConfig}
 use Rattle.imgproc.specs.declared.reading.judging.Judgement.{Judgement}
 use Rattle.imgproc.specs.declared.reading.judging.Judgement.TheVariants.{Dark, Light, Skipped}
@@ -99,7 +99,7 @@ pub dark_none : (s : ReadingConfig) (w h : ℕ) (p : List ℕ) → 0 < w
 unfolding reading_of pixels
 dark_none s w h p W n =
     no_walk (λ i. is_dark (judged s w h p (i % w) (i / w))) (w * h)
-    (λ i l. n (i % w) (i / w) (mod-lt i W) ((div-lt_iff_lt-mul W).1 (omega (arith, mul_comm w h))))
+    (λ i l. n (i % w) (i / w) (mod-lt i W) (in_row w h i W l))
 
 -- the comparisons stay below 24wh
 pub comparisons_below : (s : ReadingConfig) (w h : ℕ) → 0 < w → 0 < h → 0 < s.division.structuring_element
