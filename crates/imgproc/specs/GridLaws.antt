@@ -1,6 +1,6 @@
 -- Laws of the grid: its tile counts, and which pixels a tile and a neighbourhood hold. Assumes nothing.
 use Rattle.std.specs.Prelude.{◌≡◌, ◌↔◌, ℕ, suc, ◌+◌, ◌-◌, ◌*◌, ◌/◌, ◌%◌, ◌≤◌, ◌<◌, false, List}
-use Rattle.std.proofs.Common.{sym, ◌∙◌, ext_get_or, arith, le-ltb}
+use Rattle.std.proofs.Common.{sym, ap, ◌∙◌, ext_get_or, arith, le-ltb}
 use Rattle.std.proofs.Common.{le-div_iff_mul-le, div-lt_iff_lt-mul, suc-mul, div-mul-le_self, mul-div_cancel}
 use Rattle.std.proofs.Common.{div-add-mod', mod-lt, mul-le-mul_left}
 use Rattle.std.proofs.Math.Nat.{div-eq_of_lt-le}
@@ -30,6 +30,18 @@ quotient_small n k K r = omega (arith, div-add-mod' n k, mul-le-mul_left (n / k)
 -- a tile starts within the line
 pub tile_starts : (n t i : ℕ) → 0 < t → i < ceiling n t → i * t < n
 tile_starts n t i T I = omega (arith, (le-div_iff_mul-le {k = t} {x = suc i} {y = n + t - 1} T).0 I, suc-mul i t)
+
+-- it has a sample
+pub tile_some : (n t i : ℕ) → 0 < t → i < ceiling n t → tile_from t i ≤ tile_to t n i
+tile_some n t i T I = omega (arith, tile_starts n t i T I)
+
+-- tile a holds just the samples whose tile is a
+pub in_tile : (n t a i : ℕ) → 0 < t → i < n → Between (tile_from t a) (tile_to t n a) i ↔ (i / t ≡ a)
+in_tile n t a i T I = (
+  λ p. div-eq_of_lt-le t (omega (arith, p.0)) (omega (arith, p.1, suc-mul a t)),
+  λ e. let whole : i / t * t ≡ a * t = ap (λ (k : ℕ). k * t) e in
+      (omega (arith, whole, div-mul-le_self i t), omega (arith, whole, div-add-mod' i t, mod-lt i T)),
+)
 
 -- the tile of a sample is one of its line's
 pub sample_tile : (n t i : ℕ) → 0 < t → i < n → i / t < ceiling n t

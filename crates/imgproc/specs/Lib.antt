@@ -32,6 +32,7 @@ pub mod RootLaws
 pub mod RootNear
 pub mod RootBest
 pub mod SumLaws
+pub mod FoldLaws
 pub mod GridLaws
 pub mod GridMeans
 pub mod OpenLaws
@@ -49,10 +50,13 @@ pub mod PicturesSauvola
 pub mod PicturesGrid
 pub mod PicturesReading
 pub mod Pictures
--- What only the inside needs: what functions that no caller sees ask and leave. (Laws use Tiles' `Sized` and `Rooms`.)
+-- What only the inside needs: what functions that no caller sees ask and leave, and laws of it. (Laws use Tiles'
+-- `Sized` and `Rooms`, the pictures Gathering's `after_tiles`.)
 pub mod Tallies
 pub mod Compared
 pub mod Sweeps
 pub mod Tables
 pub mod Tiles
+pub mod Gathering
+pub mod GatheringLaws
 pub mod ReadingSteps

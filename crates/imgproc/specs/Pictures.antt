@@ -10,6 +10,7 @@ use Rattle.imgproc.specs.Division.{divided}
 use Rattle.imgproc.specs.Sauvola.{threshold_at_pixel, binarized}
 use Rattle.imgproc.specs.Grid.{thresholds, skips, open_tiles}
 use Rattle.imgproc.specs.GridCalls.{bad_grid, open_tiles_in}
+use Rattle.imgproc.specs.Gathering.{first_tiles}
 use Rattle.imgproc.specs.Blanking.{all_skipped}
 use Rattle.imgproc.specs.PicturesSauvola.{sauvola_pictures}
 use Rattle.imgproc.specs.PicturesGrid.{grid_pictures}
@@ -56,5 +57,5 @@ pub pictures_hold :
     wrong 1 (morphology_pictures ++ (division_pictures ++ (sauvola_pictures ++ (grid_pictures ++ reading_pictures)))) ≡ []
 unfolding reading_pictures reading_of marked morphology_pictures division_pictures sauvola_pictures grid_pictures
     thresholds skips open_tiles open_tiles_in all_skipped of_bits lt bad_grid swept_rect walk R divided
-    threshold_at_pixel binarized packed painted
+    threshold_at_pixel binarized packed painted first_tiles
 pictures_hold = refl

@@ -1,5 +1,5 @@
--- Document 01's pictures of part 5, and a few of our own for neighbours, offsets and refusals: a part of the table in
--- Pictures. Definitions only.
+-- Document 01's pictures of part 5, and a few of our own for neighbours, offsets, workspaces and refusals: a part of
+-- the table in Pictures. Definitions only.
 use Rattle.std.specs.Prelude.{List, [], ◌∷◌, ℕ, ℤ, pos, negsuc}
 use Rattle.std.specs.Float.{binary64}
 use Rattle.std.specs.Float.Ieee.{of_bits}
@@ -7,9 +7,10 @@ use Rattle.imgproc.specs.declared.grid.config.TileThresholdConfig.{TileThreshold
 use Rattle.imgproc.specs.declared.grid.queries.TileThresholdGrid.{TileThresholdGrid}
 use Rattle.imgproc.specs.declared.grid.config.TileThresholdMethod.{TileThresholdMethod}
 use Rattle.imgproc.specs.declared.grid.config.TileThresholdMethod.TheVariants.{Midrange, Sauvola}
-use Rattle.imgproc.specs.Cases.{Case, ◌gives◌}
+use Rattle.imgproc.specs.Cases.{Case, ◌gives◌, geometry}
 use Rattle.imgproc.specs.Grid.{thresholds, skips, open_tiles}
 use Rattle.imgproc.specs.GridCalls.{grid_settings, pixel_conditions, row_conditions, tile_of, open_tiles_in}
+use Rattle.imgproc.specs.Gathering.{Tiled, after_tiles}
 use Rattle.imgproc.specs.Blanking.{SkipLent, tile_conditions, skips_with, open_tiles_with, all_skipped}
 use Rattle.imgproc.specs.Fold.{bit}
 use Rattle.imgproc.specs.Refusals.{Conditions, first, answer_by}
@@ -78,6 +79,20 @@ lent_by i j = record {
   column = i;
   row = j;
 }
+
+-- 3 rows of 5 pixels, a byte between rows, and 3 by 2 tiles of 2 by 2, those at the right and below clipped
+abbrev pub small_rows : Tiled
+small_rows = record {
+  src = 0 ∷ 2 ∷ 10 ∷ 3 ∷ 7 ∷ 255 ∷ 4 ∷ 6 ∷ 20 ∷ 7 ∷ 8 ∷ 255 ∷ 30 ∷ 40 ∷ 50 ∷ 1 ∷ 9 ∷ [];
+  source = geometry 5 3 6;
+  settings = tiles 2 0;
+}
+
+-- a workspace for the numbers of its tiles, with a number before and one after them
+abbrev pub lent_workspace : List ℕ
+lent_workspace =
+    91 ∷ 92 ∷ 92 ∷ 92 ∷ 92 ∷ 92 ∷ 92 ∷ 92 ∷ 92 ∷ 92 ∷ 92 ∷ 92 ∷ 92 ∷ 92 ∷ 92 ∷ 92 ∷ 92 ∷ 92 ∷ 92 ∷ 92 ∷ 92 ∷
+    92 ∷ 92 ∷ 92 ∷ 92 ∷ 92 ∷ 92 ∷ 92 ∷ 92 ∷ 92 ∷ 92 ∷ 93 ∷ []
 
 -- the table
 unfoldable pub grid_pictures : List Case
@@ -160,4 +175,12 @@ grid_pictures =
     (open_tiles_with (lent_by 1 2) 1 gives 8 ∷ 9 ∷ 1 ∷ 5 ∷ []) ∷
     (skips_with (lent_by 2 2) 0 gives 0 ∷ 9 ∷ 0 ∷ 1 ∷ 1 ∷ 1 ∷ 0 ∷ 0 ∷ 0 ∷ 7 ∷ []) ∷
     (open_tiles_with (lent_by 2 2) 0 gives 8 ∷ 9 ∷ 3 ∷ 5 ∷ []) ∷
+    -- the workspace after none, 4 and all 6 tiles: the tile row above first
+    (after_tiles small_rows 1 0 lent_workspace gives lent_workspace) ∷
+    (after_tiles small_rows 1 4 lent_workspace gives
+    91 ∷ 0 ∷ 6 ∷ 12 ∷ 56 ∷ 4 ∷ 3 ∷ 20 ∷ 40 ∷ 558 ∷ 4 ∷ 7 ∷ 8 ∷ 15 ∷ 113 ∷ 2 ∷ 30 ∷ 40 ∷ 70 ∷ 2500 ∷ 2 ∷
+    92 ∷ 92 ∷ 92 ∷ 92 ∷ 92 ∷ 92 ∷ 92 ∷ 92 ∷ 92 ∷ 92 ∷ 93 ∷ []) ∷
+    (after_tiles small_rows 1 6 lent_workspace gives
+    91 ∷ 0 ∷ 6 ∷ 12 ∷ 56 ∷ 4 ∷ 3 ∷ 20 ∷ 40 ∷ 558 ∷ 4 ∷ 7 ∷ 8 ∷ 15 ∷ 113 ∷ 2 ∷ 30 ∷ 40 ∷ 70 ∷ 2500 ∷ 2 ∷
+    1 ∷ 50 ∷ 51 ∷ 2501 ∷ 2 ∷ 9 ∷ 9 ∷ 9 ∷ 81 ∷ 1 ∷ 93 ∷ []) ∷
     []

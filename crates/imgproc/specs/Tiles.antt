@@ -1,8 +1,7 @@
 -- A build keeps five numbers of each tile in its workspace, joins them over neighbours and makes bytes of them.
 -- Definitions only.
 use Rattle.std.specs.Prelude.{ℕ, zero, suc, ◌+◌, ◌-◌, ◌*◌, ◌/◌, ◌%◌, ◌≤◌, ◌<◌, min, max, ◌≡◌, List, ltb, pos, ◌+ℤ◌, length, get_or}
-use Rattle.image.specs.declared.Geometry.{Geometry}
-use Rattle.image.specs.Plane.{tabulate, pixel}
+use Rattle.image.specs.Plane.{tabulate}
 use Rattle.image.specs.Layout.{side_limit, area_limit}
 use Rattle.imgproc.specs.declared.grid.config.TileThresholdConfig.{TileThresholdConfig}
 use Rattle.imgproc.specs.declared.grid.tiles.TileNumbers.{TileNumbers}
@@ -98,36 +97,6 @@ pub record Gathered (f : ℕ → ℕ → ℕ) (g : TileThresholdConfig) (w h at 
       → (tile_entry at (tiles_x_of g w) ws i j).maximum < 256
   pub each : (i j : ℕ) → i < tiles_x_of g w → j < tiles_y_of g h
       → tile_entry at (tiles_x_of g w) ws i j ≡ numbers_in f (tile g w h i j)
-
--- the five numbers n stored from `at` on, and nothing else
-pub record Stores (at : ℕ) (n : TileNumbers) (before after : List ℕ) : Type 0 where
-  pub long : length after ≡ length before
-  pub here : entry after at ≡ n
-  pub before_it : (i : ℕ) → i < at → get_or after i 0 ≡ get_or before i 0
-  pub after_it : (i : ℕ) → at + 5 ≤ i → get_or after i 0 ≡ get_or before i 0
-
--- `gather` is lent a picture, the settings of a grid, and a workspace that takes the tiles' numbers from `at` on
-pub record GatherLent : Type 0 where
-  pub src : List ℕ
-  pub source : Geometry
-  pub settings : TileThresholdConfig
-  pub workspace : List ℕ
-  pub at : ℕ
-
-module _ (lent : GatherLent) where
-  -- where the numbers of its tiles end: `gather` asks that its workspace reaches to there
-  abbrev pub gather_end : ℕ
-  gather_end =
-      lent.at + 5 * (tiles_x_of lent.settings lent.source.width * tiles_y_of lent.settings lent.source.height)
-
-  -- the contract of `gather`: the numbers of every tile are stored from `at` on, and nothing else
-  pub record Gathers (after : List ℕ) : Type 0 where
-    pub long : length after ≡ length lent.workspace
-    pub gathered :
-        Gathered (pixel lent.src lent.source.stride)
-        lent.settings lent.source.width lent.source.height lent.at after
-    pub before_it : (i : ℕ) → i < lent.at → get_or after i 0 ≡ get_or lent.workspace i 0
-    pub after_it : (i : ℕ) → gather_end ≤ i → get_or after i 0 ≡ get_or lent.workspace i 0
 
 -- numbers of at most as many bytes as a picture has
 pub record Small (n : TileNumbers) : Type 0 where

@@ -109,7 +109,7 @@ fn fill(
           open_tiles = open_tiles.new;
         }) }
 {
-    tiling.gather(workspace, 0);
+    tiling.gather(tiling.total(), workspace, 0);
     let table = TileTable::new(tiling, workspace, 0);
     write_bytes(ThresholdRule(tiling.config), table, thresholds, 0);
     write_bytes(SkipRule(tiling.config), table, skips, 0);

@@ -91,10 +91,11 @@ fn mark_tiles(
         source: opened,
         config: grid,
     };
-    tiling.gather(u64s, 0);
+    let total = tiling.total();
+    tiling.gather(total, u64s, 0);
     let table = TileTable::new(tiling, u64s, 0);
     let tiles = table.tiles;
-    let end = marks + tiling.total();
+    let end = marks + total;
     write_bytes(SkipRule(grid), table, bytes, marks);
     count_open(&bytes[marks..end], tiles, open_tiles);
 }

@@ -21,9 +21,11 @@ use Rattle.imgproc.specs.Morphology.{opened}
 use Rattle.imgproc.specs.Sweeps.{PairReady, PairMorphed}
 use Rattle.imgproc.specs.Division.{Flattened}
 use Rattle.imgproc.specs.Grid.{tiles_x_of, tiles_y_of, skip_of, skips}
-use Rattle.imgproc.specs.Tiles.{Sized, GatherLent, Gathers, each_tile, skip_by}
+use Rattle.imgproc.specs.Gathering.{Tiled}
+use Rattle.imgproc.specs.Tiles.{Sized, each_tile, skip_by}
 use Rattle.imgproc.specs.ReadingSteps.{OpenReady, Opened, MarkReady, Marks}
 use Rattle.imgproc.specs.GridMeans.{sized_of}
+use Rattle.imgproc.proofs.grid.tiles.Gathering.{AllGathered}
 use Rattle.imgproc.proofs.grid.bytes.Tables.{skips_are}
 
 -- ---- flattened and opened
@@ -75,12 +77,12 @@ module _ {g : Geometry} {s : ReadingConfig} {at : ℕ} {bytes u64s : List ℕ} (
   pub sized : Sized s.grid g.width g.height
   sized = sized_of ready.layout ready.tile_width ready.tile_height
 
-  -- what `gather` is lent: the opened picture, packed, and the u64 workspace from its start on
-  abbrev gather_lent : GatherLent
-  gather_lent =
-      record { src = take (g.width * g.height) bytes; source = g; settings = s.grid; workspace = u64s; at = 0 }
+  -- the opened picture, packed, and its grid
+  abbrev pub tiled : Tiled
+  tiled = record { src = take (g.width * g.height) bytes; source = g; settings = s.grid }
 
-  module _ {u64s' : List ℕ} (gathered : Gathers gather_lent u64s') where
+  -- the numbers of all its tiles, as `gather` leaves them from the start of the u64 workspace on
+  module _ {u64s' : List ℕ} (as_long : length u64s' ≡ length u64s) (got : AllGathered tiled 0 u64s') where
     new : List ℕ
     new = skips s.grid g.width g.height (part 0 (g.width * g.height) bytes)
 
@@ -95,7 +97,7 @@ module _ {g : Geometry} {s : ReadingConfig} {at : ℕ} {bytes u64s : List ℕ} (
     is_new : each_tile (skip_by s.grid) s.grid g.width g.height 0 u64s' ≡ new
     unfolding new
     is_new =
-        skips_are gather_lent sized gathered
+        skips_are tiled 0 sized got
         ∙ ap (skips s.grid g.width g.height)
         (picture_again (take (g.width * g.height) bytes) g ready.layout.wide ready.tight prefix_long)
 
@@ -112,5 +114,5 @@ module _ {g : Geometry} {s : ReadingConfig} {at : ℕ} {bytes u64s : List ℕ} (
           opened = ap (part 0 m) e ∙ part_before at new bytes fits 0 m (omega (arith, ready.behind));
           skips = ap₂ (λ (c : ℕ) (d : List ℕ). part at c d) (sym new_long) e ∙ part_overwritten at new bytes fits;
           bytes_long = ap length e ∙ long;
-          u64s_long = gathered.long;
+          u64s_long = as_long;
         }

@@ -1,12 +1,14 @@
-// Lays the tiles of a grid over a picture, and gathers the five numbers of each into a u64 workspace from an offset on.
+// Lays the tiles of a grid over a picture, and gathers the five numbers of each, one tile after another, into a u64
+// workspace from an offset on.
 ghost use Rattle.std.specs.Prelude.{◌≡◌, ◌+◌, ◌-◌, ◌*◌, ◌^◌, ◌≤◌, ◌<◌, length, get_or, MatchResult};
 ghost use Rattle.image.specs.Layout.{side_limit};
-ghost use Rattle.image.specs.Plane.{pixel};
+ghost use Rattle.image.specs.Plane.{pixel, overwritten};
 ghost use Rattle.imgproc.specs.Reach.{ceiling};
 ghost use Rattle.imgproc.specs.Grid.{tiles_x_of, tiles_y_of, tile_to, tiles_limit};
 ghost use Rattle.imgproc.specs.GridCalls.{grid_settings, tile_count, tile_counts};
 ghost use Rattle.imgproc.specs.Refusals.{first};
-ghost use Rattle.imgproc.specs.Tiles.{Sized, Within, numbers_in, line_numbers, tile, joined, Stores, gather_end, Gathers};
+ghost use Rattle.imgproc.specs.Tiles.{Sized, Within, numbers_in, line_numbers, tile, joined};
+ghost use Rattle.imgproc.specs.Gathering.{five, Gathers, GathersTile};
 
 use crate::ImgProcError;
 use crate::grid::TileCounts;
@@ -83,7 +85,7 @@ impl TileNumbers {
     // Stores the five numbers from `at` on.
     fn store(self, workspace: &mut [u64], at: usize)
         requires { at + 5 ≤ length workspace.old }
-        ensures { Stores at self workspace.old workspace.new }
+        ensures { workspace.new ≡ overwritten at (five self) workspace.old }
     {
         workspace[at] = u64::from(self.minimum);
         workspace[at + 1] = u64::from(self.maximum);
@@ -171,32 +173,31 @@ impl<'a> Tiling<'a> {
         }
     }
 
-    // Gathers the numbers of every tile from `at` on, tile row after tile row.
-    pub(crate) fn gather(self, workspace: &mut [u64], at: usize)
-        requires { gather_end
-            (record {
-              src = self.source.pixels.now;
-              source = self.source.geometry;
-              settings = self.config;
-              workspace = workspace.old;
-              at = at;
-            })
-            ≤ length workspace.old }
-        ensures { Gathers
-            (record {
-              src = self.entry.source.pixels.now;
-              source = self.entry.source.geometry;
-              settings = self.entry.config;
-              workspace = workspace.old;
-              at = at;
-            })
-            workspace.new }
+    // Gathers the numbers of tile n alone, and stores them behind those of the n tiles before it, which start at `at`.
+    // Tiles are counted along a tile row from the left, tile row after tile row.
+    pub(crate) fn gather_tile(self, n: usize, workspace: &mut [u64], at: usize)
+        requires { (n < tile_count self.config self.source.geometry.width self.source.geometry.height)
+            × (at + 5 * (n + 1) ≤ length workspace.old) }
+        ensures { let t = self.entry in
+            GathersTile (record { src = t.source.pixels.now; source = t.source.geometry; settings = t.config })
+            at n workspace.old workspace.new }
     {
         let tiles_x = self.counts().tiles_x;
-        for t in 0..self.total() {
-            let tile = self.tile(t % tiles_x, t / tiles_x);
-            let numbers = TileNumbers::of_area(self.source, tile);
-            numbers.store(workspace, at + 5 * t);
+        let tile = self.tile(n % tiles_x, n / tiles_x);
+        let numbers = TileNumbers::of_area(self.source, tile);
+        numbers.store(workspace, at + 5 * n);
+    }
+
+    // Gathers the numbers of the first n tiles from `at` on, one tile after another.
+    pub(crate) fn gather(self, n: usize, workspace: &mut [u64], at: usize)
+        requires { (n ≤ tile_count self.config self.source.geometry.width self.source.geometry.height)
+            × (at + 5 * n ≤ length workspace.old) }
+        ensures { let t = self.entry in
+            Gathers (record { src = t.source.pixels.now; source = t.source.geometry; settings = t.config })
+            at n workspace.old workspace.new }
+    {
+        for t in 0..n {
+            self.gather_tile(t, workspace, at);
         }
     }
 }

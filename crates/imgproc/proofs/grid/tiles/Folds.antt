@@ -1,12 +1,12 @@
--- Folds: one sample more, two neighbouring ranges, two neighbouring boxes, equal samples, samples counted from another place, a fold that
--- starts from a neutral number, and how large a sum can get. One law over the joining operation serves minima, maxima and sums. Assumes
--- nothing.
+-- Folds: one sample more, two neighbouring ranges, two neighbouring boxes, samples counted from another place, a fold that starts from a
+-- neutral number, and how large a sum can get. One law over the joining operation serves minima, maxima and sums. Assumes nothing.
 use mathlib.Core.Path.{◌≡◌, refl, sym, ap, ap₂, ◌∙◌}
 use Prim.Native.Nat.{ℕ, zero, suc, ◌+◌, ◌-◌, ◌*◌, ◌≤◌, ◌<◌}
 use native.Mathlib.Nat.{add-zero, add-suc, sub_self, suc-mul}
 use native.Mathlib.Numerals.{add-one}
 use native.Mathlib.Omega.{arith}
-use Rattle.imgproc.specs.Fold.{fold_from, fold_over, Box, fold_box}
+use Rattle.imgproc.specs.Fold.{fold_from, fold_over, fold_box}
+use Rattle.imgproc.specs.FoldLaws.{from_same}
 
 -- an operation in any order
 pub record Joining (op : ℕ → ℕ → ℕ) : Type 0 where
@@ -17,22 +17,6 @@ module _ (op : ℕ → ℕ → ℕ) where
   pub fold_one : (f : ℕ → ℕ) (a : ℕ) → fold_over op f a a ≡ f a
   unfolding fold_over
   fold_one f a = ap (fold_from op f a) (sub_self a)
-
-  from_same : (f g : ℕ → ℕ) (a n : ℕ) → ((i : ℕ) → a ≤ i → i ≤ a + n → f i ≡ g i) → fold_from op f a n ≡ fold_from op g a n
-  unfolding fold_from
-  from_same f g a zero e = e a (omega arith) (omega arith)
-  from_same f g a (suc n) e = ap₂ op (from_same f g a n (λ i p q. e i p (omega arith))) (e (a + suc n) (omega arith) (omega arith))
-
-  -- equal samples
-  pub fold_same : (f g : ℕ → ℕ) (a b : ℕ) → a ≤ b → ((i : ℕ) → a ≤ i → i ≤ b → f i ≡ g i) → fold_over op f a b ≡ fold_over op g a b
-  unfolding fold_over
-  fold_same f g a b t e = from_same f g a (b - a) (λ i p q. e i p (omega arith))
-
-  pub box_same : (f g : ℕ → ℕ → ℕ) (b : Box) → b.left ≤ b.right → b.top ≤ b.bottom → ((x y : ℕ) → x ≤ b.right → y ≤ b.bottom → f x y ≡ g x y)
-      → fold_box op f b ≡ fold_box op g b
-  unfolding fold_box
-  box_same f g b s t e =
-      fold_same _ _ b.top b.bottom t (λ y p q. fold_same (λ x. f x y) (λ x. g x y) b.left b.right s (λ x u v. e x y v q))
 
 -- two neighbouring ranges
 module _ (op : ℕ → ℕ → ℕ) (j : Joining op) where

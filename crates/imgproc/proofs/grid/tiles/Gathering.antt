@@ -1,89 +1,46 @@
--- The numbers of the tiles stored one after another. Assumes nothing.
+-- The workspace after all tiles is what the table of tiles asks for. Assumes nothing.
 use mathlib.Core.Path.{◌≡◌, sym, ap, ap₂, ◌∙◌, subst}
 use mathlib.Core.List.{List}
-use mathlib.Core.Logic.{⊎_elim}
-use Prim.Native.Nat.{ℕ, ◌+◌, ◌*◌, ◌/◌, ◌%◌, ◌≤◌, ◌<◌}
-use native.Mathlib.Nat.{eq-or-lt_of_le, mul-le-mul_right, suc-mul, mul_comm}
+use Prim.Native.Nat.{ℕ, ◌+◌, ◌*◌, ◌≤◌, ◌<◌}
 use native.Mathlib.Omega.{arith}
 use lib.Arith.{digits_mod, digits_div}
-use lib.ListN.{length, get_or}
-use Rattle.image.specs.declared.Geometry.{Geometry}
+use lib.ListN.{length}
 use Rattle.image.specs.Plane.{pixel}
-use Rattle.imgproc.specs.declared.grid.config.TileThresholdConfig.{TileThresholdConfig}
+use Rattle.image.specs.PlaneLaws.{in_plane}
 use Rattle.imgproc.specs.declared.grid.tiles.TileNumbers.{TileNumbers}
 use Rattle.imgproc.specs.Grid.{tiles_x_of, tiles_y_of}
-use Rattle.imgproc.specs.Tiles.{numbers_in, tile, entry, Stores, GatherLent, gather_end, Gathers}
-use Rattle.imgproc.proofs.grid.tiles.Numbers.{same}
+use Rattle.imgproc.specs.Tiles.{numbers_in, tile, tile_entry, entry, Gathered}
+use Rattle.imgproc.specs.Gathering.{Tiled, tiles_of, tile_numbers, Gathers}
+use Rattle.imgproc.specs.GatheringLaws.{as_long, each_own}
 
--- entries that hold the same five numbers
-entry_same : (a b : List ℕ) (at : ℕ) → ((i : ℕ) → at ≤ i → i < at + 5 → get_or a i 0 ≡ get_or b i 0) → entry a at ≡ entry b at
-entry_same a b at e =
-    same _ _
-    (e at (omega arith) (omega arith))
-    (e (at + 1) (omega arith) (omega arith))
-    (e (at + 2) (omega arith) (omega arith))
-    (e (at + 3) (omega arith) (omega arith))
-    (e (at + 4) (omega arith) (omega arith))
+-- ws holds the numbers of every tile from `at` on
+abbrev pub AllGathered : Tiled → ℕ → List ℕ → Type 0
+AllGathered p at ws = Gathered (pixel p.src p.source.stride) p.settings p.source.width p.source.height at ws
 
--- the numbers of tile k of a picture, tile row after tile row
-abbrev pub tiles_of : List ℕ → Geometry → TileThresholdConfig → ℕ → TileNumbers
-tiles_of src s g k =
-    numbers_in (pixel src s.stride) (tile g s.width s.height (k % tiles_x_of g s.width) (k / tiles_x_of g s.width))
+module _ (p : Tiled) (at : ℕ) (lent : List ℕ) {n : ℕ} {ws : List ℕ} (N : n ≡ tiles_of p) (room : at + 5 * n ≤ length lent)
+    (gathers : Gathers p at n lent ws) where
+  abbrev tx : ℕ
+  tx = tiles_x_of p.settings p.source.width
 
--- the first t entries from `at` on are n 0, n 1, .., and nothing else was stored
-pub record StoredTo (n : ℕ → TileNumbers) (at t : ℕ) (before after : List ℕ) : Type 0 where
-  pub long : length after ≡ length before
-  pub each : (k : ℕ) → k < t → entry after (at + 5 * k) ≡ n k
-  pub bytes : (k : ℕ) → k < t → (n k).maximum < 256
-  pub before_it : (i : ℕ) → i < at → get_or after i 0 ≡ get_or before i 0
-  pub after_it : (i : ℕ) → at + 5 * t ≤ i → get_or after i 0 ≡ get_or before i 0
+  abbrev ty : ℕ
+  ty = tiles_y_of p.settings p.source.height
 
-pub stored_more : (n : ℕ → TileNumbers) (at t : ℕ) (ws a b : List ℕ) (v : TileNumbers) → StoredTo n at t ws a → v ≡ n t → v.maximum < 256
-    → Stores (at + 5 * t) v a b → StoredTo n at (t + 1) ws b
-stored_more n at t ws a b v s e byte p = record {
-  long = p.long ∙ s.long;
-  each = λ k h. ⊎_elim
-      (λ (q : k ≡ t). ap (λ (i : ℕ). entry b (at + 5 * i)) q ∙ p.here ∙ e ∙ ap n (sym q))
-      (λ (q : k < t). entry_same b a (at + 5 * k) (λ i u w. p.before_it i (omega arith)) ∙ s.each k q)
-      (eq-or-lt_of_le {n = k} {m = t} (omega arith));
-  bytes = λ k h. ⊎_elim
-      (λ (q : k ≡ t). subst (λ (u : TileNumbers). u.maximum < 256) (e ∙ ap n (sym q)) byte)
-      (λ (q : k < t). s.bytes k q)
-      (eq-or-lt_of_le {n = k} {m = t} (omega arith));
-  before_it = λ i h. p.before_it i (omega arith) ∙ s.before_it i h;
-  after_it = λ i h. p.after_it i (omega arith) ∙ s.after_it i (omega arith);
-}
+  number : (i j : ℕ) → i < tx → j < ty → j * tx + i < n
+  number i j I J = omega (arith, N, in_plane tx ty i j I J)
 
--- at the end every tile's numbers are there
-pub gathered_all : (lent : GatherLent) (t : ℕ) (after : List ℕ) → gather_end lent ≤ length lent.workspace
-    → t ≡ tiles_x_of lent.settings lent.source.width * tiles_y_of lent.settings lent.source.height
-    → StoredTo (tiles_of lent.src lent.source lent.settings) lent.at t lent.workspace after
-    → Gathers lent after
-gathered_all lent t after fits e p =
-    let s = lent.source in
-    let g = lent.settings in
-    record {
-      long = p.long;
-      gathered = record {
-        room = omega (arith, p.long, fits);
-        bytes = λ i j I J.
-            subst (λ (u : TileNumbers). u.maximum < 256) (sym (stands i j I J)) (p.bytes (j * tx + i) (number i j I J));
-        each = λ i j I J.
-            stands i j I J
-            ∙ ap₂ (λ (x y : ℕ). numbers_in (pixel lent.src s.stride) (tile g s.width s.height x y)) (digits_mod j I) (digits_div j I);
-      };
-      before_it = p.before_it;
-      after_it = λ i h. p.after_it i (omega arith);
-    }
-  where
-    tx : ℕ
-    tx = tiles_x_of lent.settings lent.source.width
+  stands : (i j : ℕ) → i < tx → j < ty → tile_entry at tx ws i j ≡ tile_numbers p (j * tx + i)
+  stands i j I J =
+      let q : at + 5 * (j * tx) + 5 * i ≡ at + 5 * (j * tx + i) = omega arith in
+      ap₂ entry gathers.leaves q ∙ each_own p at n lent room (j * tx + i) (number i j I J)
 
-    number : (i j : ℕ) → i < tx → j < tiles_y_of lent.settings lent.source.height → j * tx + i < t
-    number i j I J = omega (arith, e, mul-le-mul_right tx J, suc-mul j tx, mul_comm tx (tiles_y_of lent.settings lent.source.height))
-
-    stands : (i j : ℕ) → i < tx → j < tiles_y_of lent.settings lent.source.height
-        → entry after (lent.at + 5 * (j * tx) + 5 * i) ≡ tiles_of lent.src lent.source lent.settings (j * tx + i)
-    stands i j I J =
-        let q : lent.at + 5 * (j * tx) + 5 * i ≡ lent.at + 5 * (j * tx + i) = omega arith in
-        ap (entry after) q ∙ p.each (j * tx + i) (number i j I J)
+  pub gathered_all : AllGathered p at ws
+  gathered_all = record {
+    room = omega (arith, N, ap length gathers.leaves, as_long p at n lent room, room);
+    bytes = λ i j I J. subst (λ (u : TileNumbers). u.maximum < 256) (sym (stands i j I J)) (gathers.bytes (j * tx + i) (number i j I J));
+    each = λ i j I J.
+        stands i j I J
+        ∙ ap₂
+        (λ (x y : ℕ). numbers_in (pixel p.src p.source.stride) (tile p.settings p.source.width p.source.height x y))
+        (digits_mod j I)
+        (digits_div j I);
+  }

@@ -10,7 +10,7 @@ use Rattle.imgproc.specs.Fold.{Box}
 use Rattle.imgproc.specs.Extremes.{Some}
 use Rattle.imgproc.specs.Reach.{low, high, ceiling}
 use Rattle.imgproc.specs.Grid.{tiles_x_of, tiles_y_of, tile_from, tile_to, around}
-use Rattle.imgproc.specs.GridLaws.{tile_starts, around_some}
+use Rattle.imgproc.specs.GridLaws.{tile_starts, tile_some, around_some}
 use Rattle.imgproc.specs.Tiles.{Sized, numbers_in, joined, join_from, join_over, tile_entry, Gathered, ProperGrid, Proper, joined_around}
 use Rattle.imgproc.specs.declared.grid.tiles.TileNumbers.{TileNumbers}
 use Rattle.imgproc.proofs.grid.tiles.Joins.{join_maximum}
@@ -19,17 +19,13 @@ use Rattle.imgproc.proofs.grid.tiles.Numbers.{below, beside, proper}
 -- ---- along an axis of n samples with tiles of t
 
 module _ (n t : ℕ) (T : 0 < t) where
-  -- a tile has a sample
-  pub tile_some : (i : ℕ) → i < ceiling n t → tile_from t i ≤ tile_to t n i
-  tile_some i I = omega (arith, tile_starts n t i T I)
-
   -- the next tile starts after it
   tiles_meet : (i : ℕ) → suc i < ceiling n t → tile_to t n i + 1 ≡ tile_from t (suc i)
   tiles_meet i I = omega (arith, tile_starts n t (suc i) T I, suc-mul i t)
 
   -- tiles a..i start before they end, and end before the next does
   tiles_some : (a i : ℕ) → a ≤ i → i < ceiling n t → tile_from t a ≤ tile_to t n i
-  tiles_some a i h I = le_trans (mul-le-mul_right t h) (tile_some i I)
+  tiles_some a i h I = le_trans (mul-le-mul_right t h) (tile_some n t i T I)
 
   tiles_grow : (i : ℕ) → suc i < ceiling n t → tile_to t n i < tile_to t n (suc i)
   tiles_grow i I = omega (arith, tile_starts n t (suc i) T I, suc-mul i t)
@@ -67,7 +63,7 @@ module _ (f : ℕ → ℕ → ℕ) (g : TileThresholdConfig) (w h at : ℕ) (ws 
       (beside f (tile_from g.tile_width a) m (tile_to g.tile_width w (suc (a + k))) (tile_from g.tile_height j) (tile_to g.tile_height h j)
       (tiles_some w g.tile_width z.tile_width a (a + k) (omega arith) (omega arith))
       (tiles_grow w g.tile_width z.tile_width (a + k) S)
-      (tile_some h g.tile_height z.tile_height j J))
+      (tile_some h g.tile_height j z.tile_height J))
       ∙ ap (λ (i : ℕ). numbers_in f (tiles_box a i j j)) (sym e)
 
   row_is : (a i j : ℕ) → a ≤ i → i < tiles_x_of g w → j < tiles_y_of g h → join_over (λ k. tile_entry at (tiles_x_of g w) ws k j) a i ≡ numbers_in f (tiles_box a i j j)

@@ -6,6 +6,7 @@ use native.Mathlib.Omega.{arith}
 use Rattle.image.specs.Layout.{side_limit}
 use Rattle.imgproc.specs.declared.grid.tiles.TileNumbers.{TileNumbers}
 use Rattle.imgproc.specs.Fold.{fold_from, fold_over, Box, fold_box}
+use Rattle.imgproc.specs.FoldLaws.{fold_same}
 use Rattle.imgproc.specs.Extremes.{Some, Inside, lowest, highest, fold_box_extreme}
 use Rattle.imgproc.specs.Tiles.{numbers_in, line_numbers, joined, Proper}
 use Rattle.imgproc.proofs.grid.tiles.Folds.{
@@ -16,11 +17,9 @@ use Rattle.imgproc.proofs.grid.tiles.Folds.{
   running_all,
   running_small,
   fold_one,
-  fold_same,
   fold_shift,
   box_below,
   box_beside,
-  box_same,
 }
 
 -- numbers are equal field by field
@@ -148,16 +147,6 @@ beside f l m r t b p q s =
     (box_beside ◌+◌ sums_join f l m r t b p q s)
     (box_beside ◌+◌ sums_join (λ x y. f x y * f x y) l m r t b p q s)
     (box_beside ◌+◌ sums_join (λ x y. 1) l m r t b p q s)
-
--- pictures that agree in a box
-pub same_in : (f g : ℕ → ℕ → ℕ) (b : Box) → Some b → ((x y : ℕ) → x ≤ b.right → y ≤ b.bottom → f x y ≡ g x y) → numbers_in f b ≡ numbers_in g b
-same_in f g b s e =
-    same _ _
-    (box_same min f g b s.across s.down e)
-    (box_same max f g b s.across s.down e)
-    (box_same ◌+◌ f g b s.across s.down e)
-    (box_same ◌+◌ (λ x y. f x y * f x y) (λ x y. g x y * g x y) b s.across s.down (λ x y u v. ap (λ (k : ℕ). k * k) (e x y u v)))
-    refl
 
 -- ---- how large
 
