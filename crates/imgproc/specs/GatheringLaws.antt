@@ -9,8 +9,8 @@ use Rattle.std.proofs.Common.{mod-lt, div-add-mod'}
 use Rattle.std.proofs.Math.Arith.{digits_div, digits_mod}
 use Rattle.std.proofs.Math.ListN.{get_or-append, length-take}
 use Rattle.image.specs.Plane.{pixel, overwritten}
-use Rattle.image.specs.PlaneLaws.{in_plane, in_row}
-use Rattle.image.specs.PlaneLaws.{length-overwritten, overwritten_before, overwritten_within, overwritten_after, overwritten_none}
+use Rattle.image.specs.PlaneLaws.{in_plane, in_row, length-overwritten}
+use Rattle.image.specs.PlaneLaws.{overwritten_none, overwritten_before, overwritten_within, overwritten_after}
 use Rattle.image.specs.PaintLaws.{overwritten_more}
 use Rattle.imgproc.specs.declared.grid.tiles.TileNumbers.{TileNumbers}
 use Rattle.imgproc.specs.Fold.{Box}
@@ -64,9 +64,12 @@ module _ (p : Tiled) (at n : ℕ) (lent : List ℕ) (room : at + 5 * n ≤ lengt
   fits : at + length (first_tiles p n) ≤ length lent
   fits = omega (arith, first_long p n)
 
-  -- the workspace keeps its length
-  pub as_long : length (after_tiles p at n lent) ≡ length lent
-  as_long = length-overwritten at (first_tiles p n) lent fits
+  -- a number behind those of the first n tiles is as lent, and so is one before them
+  pub as_lent_after : (i : ℕ) → at + 5 * n ≤ i → get_or (after_tiles p at n lent) i 0 ≡ get_or lent i 0
+  as_lent_after i h = overwritten_after at (first_tiles p n) lent fits i (omega (arith, first_long p n))
+
+  pub as_lent_before : (i : ℕ) → i < at → get_or (after_tiles p at n lent) i 0 ≡ get_or lent i 0
+  as_lent_before = overwritten_before at (first_tiles p n) lent fits
 
   -- each of the first n tiles has its own numbers
   pub each_own : (t : ℕ) → t < n → entry (after_tiles p at n lent) (at + 5 * t) ≡ tile_numbers p t
@@ -77,12 +80,9 @@ module _ (p : Tiled) (at n : ℕ) (lent : List ℕ) (room : at + 5 * n ≤ lengt
       ∙ overwritten_within at (first_tiles p n) lent fits (5 * t + k) (omega (arith, first_long p n)))
       ∙ first_entry p n t h
 
-  -- a number before them is as lent, and so is one after them
-  pub as_lent_before : (i : ℕ) → i < at → get_or (after_tiles p at n lent) i 0 ≡ get_or lent i 0
-  as_lent_before = overwritten_before at (first_tiles p n) lent fits
-
-  pub as_lent_after : (i : ℕ) → at + 5 * n ≤ i → get_or (after_tiles p at n lent) i 0 ≡ get_or lent i 0
-  as_lent_after i h = overwritten_after at (first_tiles p n) lent fits i (omega (arith, first_long p n))
+  -- the workspace keeps its length
+  pub as_long : length (after_tiles p at n lent) ≡ length lent
+  as_long = length-overwritten at (first_tiles p n) lent fits
 
   -- one tile more stores its five numbers, and nothing else
   pub one_more :
