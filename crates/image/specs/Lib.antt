@@ -7,8 +7,10 @@ pub mod Plane
 pub mod Pixel
 pub mod Row
 pub mod Copy
--- Laws about it: when a call is refused, worked layouts, and what a layout, a picture, a row and a copy give.
+-- Laws about it: when a call is refused, what answers to lists of conditions come to, worked layouts, and what a
+-- layout, a picture, a row and a copy give.
 pub mod RefusedExactly
+pub mod AnswerLaws
 pub mod Layouts
 pub mod LayoutLaws
 pub mod PlaneLaws
