@@ -3,7 +3,7 @@ It does not say that each of them was made, that each was counted when it was ma
 code but src/morphology/tally.rt from making a tally or touching its number. The rules of rules.py cover the rest. They are about the program
 that the proofs are about, as `rt check --generated` writes it. No rule holds a copy of the code.
 
-  python3 tools/tally             checks image, imgproc, and the two crates that report a number: answer and imgproc_c
+  python3 tools/tally             checks image, imgproc, and the crates that report a number: answer, imgproc_c and records
   python3 tools/tally try         does so, and tries each edit of crates/*/fence: what the edit names must refuse it (edits.py)
   python3 tools/tally try A B     tries the edits A and B alone
 

@@ -12,16 +12,18 @@ OTHER_PARTS = {
     'imgproc::reading::mark_tiles': 'imgproc::reading::read_picture',
     'imgproc::reading::judging::judge_picture': 'imgproc::reading::read_picture',
 }
-# LINE writes the program's line of the numbers in a COUNTS, and REFUSALS report a refusal. A function that holds an answer may call
-# these alone. What they return, the length of the line, may be taken out of its Some by LENGTH.
-COUNTS, LINE, REFUSALS = 'pgm::Counts', 'pgm::Counts::line', ('imgproc::ImgProcErrorRefusal::number', 'pgm::refused_line')
+# The types that hold the numbers of an answer, each with the function that reports them: the program's line, or a record. REFUSALS
+# report a refusal. A function that holds an answer may call these alone. The length of the line, which is what they return, may be
+# taken out of its Some by LENGTH.
+REPORTS = {'pgm::Counts': 'pgm::Counts::line', 'records::entry::Entry': 'records::entry::Entry::record'}
+REFUSALS = ('imgproc::ImgProcErrorRefusal::number', 'pgm::refused_line')
 LENGTH = 'std::option::Option::unwrap'
 # `?` takes an answer apart by the first of these, and makes an answer of a refusal, which holds no tally, by the second.
 TAKEN_APART, PASSED_ON = 'branch', 'from_residual'
 # std's copies within a slice and from one to another move samples and compute with none.
 MOVING = ('copy_from_slice', 'copy_within')
 # The crates that report a number.
-REPORTING = ('answer', 'imgproc_c')
+REPORTING = ('answer', 'imgproc_c', 'records')
 
 
 class Code:
@@ -37,7 +39,7 @@ class Code:
         """Raises Unknown if a function is missing: a rule that finds nothing to look at must not pass."""
         missing = [n for n in names if n not in self.functions]
         missing += [n for n in (TALLY, MET) if n not in self.program.variants]
-        missing += [f'call of {n}' for n in (LINE,) if not self.callers(n)]
+        missing += [f'call of {n}' for n in REPORTS.values() if not self.callers(n)]
         readers = {name.split('::')[0] for name in self.callers(NUMBER)}
         missing += [f'reader of a tally in {crate}' for crate in REPORTING if crate not in readers]
         if missing:

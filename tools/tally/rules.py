@@ -160,8 +160,8 @@ def assigned(code, f, place, value):
 
 def a_reported_number_is_read_out_of_its_tally(code):
     """The reported number is the tally and is never worked out. No function of imgproc reads the number. Above imgproc, a function
-    that has an answer takes it apart, writes the number of its tally to the lent number or to the line, and computes, calls and
-    stores nothing else."""
+    that has an answer takes it apart, writes the number of its tally to the lent number, to the line or to a record, and computes,
+    calls and stores nothing else."""
     for name in code.callers(NUMBER):
         if name.startswith('imgproc::'):
             yield name, 'reads the number of a tally'

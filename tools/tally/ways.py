@@ -1,7 +1,7 @@
 """Follows every path through a function, from its first statement to each return, and notes what a rule has to know about it."""
 import mir
 from mir import TAG, Unknown, callee, filled, head, items, operands, statements
-from program import CHOSEN, COUNTED, COUNTS, EXTREME, LENGTH, LINE, MET, NUMBER, PASSED_ON, REFUSALS, short
+from program import CHOSEN, COUNTED, EXTREME, LENGTH, MET, NUMBER, PASSED_ON, REFUSALS, REPORTS, short
 
 NOTHING = frozenset()
 NAMES = {
@@ -152,7 +152,7 @@ class HandedOn(Ways):
         n, steps = int(place[1]), items(place[2])
         if steps and not self.code.carries(self.kind(place)):
             if 'number' in state.get(n, NOTHING):
-                self.no('changes the counts of a line once the number is in them')
+                self.no('changes the counts of a report once the number is in them')
             if parts and not any(step[0] == 'deref' for step in steps):
                 self.no('keeps an extreme or a number in a part of something')
             return state  # the sample or number is stored
@@ -179,8 +179,8 @@ class HandedOn(Ways):
         return self.take(state, n, frozenset(part))
 
     def spends(self, due, by):
-        """Tells whether the call of `by` compares the extreme again, or writes the number to the line."""
-        return 'sample' in due and by == EXTREME or 'number' in due and by == LINE
+        """Tells whether the call of `by` compares the extreme again, or reports the number."""
+        return 'sample' in due and by == EXTREME or 'number' in due and by in REPORTS.values()
 
     def use_reference(self, n, state, by):
         if by is None:
@@ -204,7 +204,7 @@ class HandedOn(Ways):
             n = int(value[1][1][1])
             given, origin = state.get(n, NOTHING) & {'sample', 'number'}, self.origin.get(n, origin)
             state = {**state, n: state.get(n, NOTHING) - given}
-        if value[0] == 'aggregate' and self.kind(place)[:2] == ['ty_named', COUNTS]:
+        if value[0] == 'aggregate' and self.kind(place)[0] == 'ty_named' and self.kind(place)[1] in REPORTS:
             given, state = self.counts_of(operands(value), state)
         for operand in operands(value):
             state = self.use(operand, state)
@@ -212,7 +212,7 @@ class HandedOn(Ways):
         return self.put(place, self.whole(kind) if self.code.carries(kind) else given, origin, state)
 
     def counts_of(self, given, state):
-        """Returns whether a number is among what is put into the counts of a line, and the state after that: the counts hold it now."""
+        """Returns whether a number is put into the counts of a report, and the state after that: the counts hold it now."""
         numbers = {int(o[1][1]) for o in given if head(o) == 'copy' and 'number' in state.get(int(o[1][1]), NOTHING)}
         after = {**state, **{n: state[n] - {'number'} for n in numbers}}
         return frozenset({'number'} if numbers else ()), after
@@ -229,8 +229,8 @@ class HandedOn(Ways):
 
 
 class Reported(Ways):
-    """Notes how far the function is: it has no answer yet; it has one; its answer is reported, by the line or by a function that took
-    it. With an answer it only takes that apart: it does no arithmetic, makes no other call, and stores only parts of the answer and
+    """Notes how far the function is: it has no answer yet; it has one; its answer is reported, by the line, by a record or by a
+    function that took it. With an answer it only takes that apart: it does no arithmetic, makes no other call, and stores only parts of the answer and
     the number of its tally. After the report it stores nothing, and calls nothing but what takes the line's length out of its Some."""
 
     NONE, ANSWERED, DONE = range(3)
@@ -271,8 +271,8 @@ class Reported(Ways):
         takes = any(head(a) == 'copy' and self.code.carries(self.kind(a[1])) for a in arguments)
         if state == self.DONE and name != LENGTH:
             self.no(f'calls `{short(name)}` after its answer is reported')
-        elif state == self.ANSWERED and not takes and name not in (LINE, *REFUSALS):
+        elif state == self.ANSWERED and not takes and name not in (*REPORTS.values(), *REFUSALS):
             self.no(f'calls `{short(name)}` while it has an answer')
         if self.code.carries(self.kind(place)):
             return self.ANSWERED
-        return self.DONE if name == LINE or name in self.reporting else state
+        return self.DONE if name in REPORTS.values() or name in self.reporting else state
