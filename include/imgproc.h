@@ -21,7 +21,8 @@
  *  - nobody else writes to what is lent, or reads what is written, while a call runs.
  * No call keeps a pointer or allocates, so calls on different ranges may run at the same time.
  *
- * imgproc_settings.h offers the calls with settings again, with structs in place of long rows of numbers.
+ * imgproc_settings.h offers the calls with settings and those of records again, with structs in place of long rows of
+ * numbers.
  */
 #ifndef IMGPROC_H
 #define IMGPROC_H
@@ -35,7 +36,7 @@
 
 /* The version, and the number of the calling form, which changes whenever a declaration changes; an added one leaves
    it. */
-#define IMGPROC_VERSION "0.4.0"
+#define IMGPROC_VERSION "0.5.0"
 #define IMGPROC_ABI 3
 
 /* The largest side of a picture. */
@@ -43,6 +44,9 @@
 
 /* The most pixels of a window of imgproc_sauvola_narrow_into: 32 bits hold the sum of that many squares of bytes. */
 #define IMGPROC_MAX_WINDOW 66051
+
+/* The bytes of a record. */
+#define IMGPROC_RECORD_BYTES 28
 
 #ifdef __cplusplus
 extern "C" {
@@ -61,7 +65,9 @@ enum imgproc_refusal {
     IMGPROC_WORKSPACE_TOO_SMALL = 8,    /* the range to copy to, or the workspace, is too short */
     IMGPROC_OUTSIDE_PICTURE = 9,        /* the pixel or row lies outside the picture, or the tile outside the grid */
     IMGPROC_GRID_BUFFER_TOO_SMALL = 10, /* a buffer of thresholds, skips or counts of open tiles is too short */
-    IMGPROC_WINDOW_TOO_LARGE = 12       /* a window has more than IMGPROC_MAX_WINDOW pixels */
+    IMGPROC_WINDOW_TOO_LARGE = 12,      /* a window has more than IMGPROC_MAX_WINDOW pixels */
+    IMGPROC_NO_RECORD = 13,             /* the bytes are too few for a record, or have another mark */
+    IMGPROC_BAD_RECORD = 14             /* a side is out of range, the counts do not add up, or a number is too large */
 };
 
 /* Returns the number of the archive's calling form, which its name holds too. Each file that includes this header
@@ -261,6 +267,26 @@ uint32_t imgproc_reading(const uint8_t *src, size_t src_len, size_t src_width, s
                          uint8_t *bytes, size_t bytes_len, uint64_t *u64s, size_t u64s_len,
                          uint16_t *open_tiles, size_t open_tiles_len,
                          uint64_t *dark, uint64_t *light, uint64_t *skipped, uint64_t *comparisons);
+
+/* A record keeps a reading in IMGPROC_RECORD_BYTES bytes: the mark, which is the two bytes 52 31 hexadecimal, and then
+   the numbers, each with its highest byte first. They are the number of the flask that was read (4 bytes), the number
+   of the pass (2), the picture's width and height (2 each), and dark, light, skipped and comparisons (4 each). Its
+   values are good if both sides are in 1..IMGPROC_MAX_SIDE and dark + light + skipped, the true sum, is width * height.
+   Flask, pass and comparisons may be any numbers of so many bytes. */
+
+/* Writes the record of these numbers to the first IMGPROC_RECORD_BYTES bytes of destination, and changes no byte after
+   them. Refused: 13 if destination_len is below IMGPROC_RECORD_BYTES, then 14 if the values are not good or comparisons
+   is above 2^32 - 1. No number is cut to its field before it is checked. */
+uint32_t imgproc_record_write(uint32_t flask, uint16_t pass, size_t width, size_t height,
+                              uint64_t dark, uint64_t light, uint64_t skipped, uint64_t comparisons,
+                              uint8_t *destination, size_t destination_len);
+
+/* Reads the record in the first IMGPROC_RECORD_BYTES bytes of source, and puts its numbers behind the pointers. Later
+   bytes do not matter. Refused: 13 if source_len is below IMGPROC_RECORD_BYTES or the mark is another, then 14 if the
+   values are not good. */
+uint32_t imgproc_record_read(const uint8_t *source, size_t source_len, uint32_t *flask, uint16_t *pass,
+                             size_t *width, size_t *height,
+                             uint64_t *dark, uint64_t *light, uint64_t *skipped, uint64_t *comparisons);
 
 /* Returns the square root of x, correctly rounded. The root of -0.0 is -0.0; the root of a NaN or of a value below zero
    is a NaN. */

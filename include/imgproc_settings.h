@@ -1,7 +1,7 @@
 /*
- * The calls of imgproc.h that take settings, with a struct for each picture, each kind of settings and each answer, so
- * that every number has a name. Each call here makes one call there: it returns the same number, is refused in the same
- * order, and asks the same of the pointers. For C99 and C++11.
+ * The calls of imgproc.h that take settings or a record's numbers, with a struct for each picture, each kind of
+ * settings, each answer and each record, so that every number has a name. Each call here makes one call there: it
+ * returns the same number, is refused in the same order, and asks the same of the pointers. For C99 and C++11.
  *
  *     struct imgproc_reading_settings settings = IMGPROC_READING_DEFAULTS;
  *     settings.opening_kernel = 5;
@@ -29,7 +29,7 @@ struct imgproc_destination {
     size_t stride;
 };
 
-/* A byte workspace, or a buffer of thresholds or skips. */
+/* A byte workspace, a buffer of thresholds or skips, or a destination of a record. */
 struct imgproc_bytes {
     uint8_t *data;
     size_t len;
@@ -130,6 +130,15 @@ struct imgproc_counts {
     uint64_t comparisons; /* of samples, in the closing and the opening */
 };
 
+/* A reading that a record keeps. */
+struct imgproc_record {
+    uint32_t flask; /* the number of the flask that was read */
+    uint16_t pass;  /* the number of the pass */
+    size_t width;   /* of the picture */
+    size_t height;
+    struct imgproc_counts counts;
+};
+
 /* The sizes of a grid, as the calls to a built grid take them. */
 struct imgproc_grid {
     size_t width;
@@ -166,6 +175,8 @@ static inline const char *imgproc_refusal_words(uint32_t number) {
     case IMGPROC_OUTSIDE_PICTURE: return "the place lies outside the picture or the grid";
     case IMGPROC_GRID_BUFFER_TOO_SMALL: return "a grid buffer is too short";
     case IMGPROC_WINDOW_TOO_LARGE: return "a window has too many pixels";
+    case IMGPROC_NO_RECORD: return "the bytes are too few for a record, or have another mark";
+    case IMGPROC_BAD_RECORD: return "no record has these numbers";
     default: return "the reason is not known here";
     }
 }
@@ -346,6 +357,20 @@ static inline uint32_t imgproc_read(struct imgproc_source src, struct imgproc_de
                            settings->sauvola.dark_value, settings->sauvola.light_value,
                            bytes.data, bytes.len, u64s.data, u64s.len, open_tiles.data, open_tiles.len,
                            &counts->dark, &counts->light, &counts->skipped, &counts->comparisons);
+}
+
+/* Calls imgproc_record_write. */
+static inline uint32_t imgproc_write_record(const struct imgproc_record *record, struct imgproc_bytes destination) {
+    return imgproc_record_write(record->flask, record->pass, record->width, record->height,
+                                record->counts.dark, record->counts.light, record->counts.skipped,
+                                record->counts.comparisons, destination.data, destination.len);
+}
+
+/* Calls imgproc_record_read. A refused call leaves *record as it was. */
+static inline uint32_t imgproc_read_record(const uint8_t *source, size_t source_len, struct imgproc_record *record) {
+    return imgproc_record_read(source, source_len, &record->flask, &record->pass, &record->width, &record->height,
+                               &record->counts.dark, &record->counts.light, &record->counts.skipped,
+                               &record->counts.comparisons);
 }
 
 #endif

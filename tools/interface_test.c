@@ -1,7 +1,8 @@
 /* Compares the named calls of imgproc_settings.h with the flat ones: both must give the same numbers, bytes and counts,
    over good and bad settings, layouts and lengths. Compares the calls that skip a tile by hand, and what they leave,
-   with what looking at every tile says, and Sauvola's narrow call with the wide one. Prints how many calls were
-   compared, or the first difference. For C99 and C++11. */
+   with what looking at every tile says, Sauvola's narrow call with the wide one, and the calls of records with a plain
+   rule and with bytes written by hand. Prints how many calls were compared, or the first difference. For C99 and
+   C++11. */
 #include <stdio.h>
 #include <stdlib.h>
 #include <string.h>
@@ -306,6 +307,253 @@ static void check_narrow(void) {
                         }
 }
 
+/* A record in which no two fields are the same, and its bytes, written by hand. */
+static const struct imgproc_record worked = {0x0a1b2c3d, 0x4e5f, 1929, 1588, {987426, 1354701, 721125, 0x89abcdef}};
+static const uint8_t worked_bytes[IMGPROC_RECORD_BYTES] = {
+    0x52, 0x31, 0x0a, 0x1b, 0x2c, 0x3d, 0x4e, 0x5f, 0x07, 0x89, 0x06, 0x34, 0x00, 0x0f, 0x11, 0x22,
+    0x00, 0x14, 0xab, 0xcd, 0x00, 0x0b, 0x00, 0xe5, 0x89, 0xab, 0xcd, 0xef};
+
+/* The number of pixels of a picture of 40 x 30, and powers of two. */
+#define AREA UINT64_C(1200)
+#define TWO_32 (UINT64_C(1) << 32)
+#define TWO_63 (UINT64_C(1) << 63)
+
+/* Returns a record of flask 1 and pass 2. */
+static struct imgproc_record record_of(size_t width, size_t height, uint64_t dark, uint64_t light, uint64_t skipped,
+                                       uint64_t comparisons) {
+    struct imgproc_record record = {1, 2, 0, 0, {0, 0, 0, 0}};
+    record.width = width;
+    record.height = height;
+    record.counts.dark = dark;
+    record.counts.light = light;
+    record.counts.skipped = skipped;
+    record.counts.comparisons = comparisons;
+    return record;
+}
+
+static int same_records(const struct imgproc_record *a, const struct imgproc_record *b) {
+    return a->flask == b->flask && a->pass == b->pass && a->width == b->width && a->height == b->height &&
+           a->counts.dark == b->counts.dark && a->counts.light == b->counts.light &&
+           a->counts.skipped == b->counts.skipped && a->counts.comparisons == b->counts.comparisons;
+}
+
+/* Puts the lowest `room` bytes of a number from `at` on, the highest first. */
+static void put(uint8_t *at, uint64_t number, size_t room) {
+    while (room-- > 0) {
+        at[room] = (uint8_t)(number & 255);
+        number >>= 8;
+    }
+}
+
+/* Puts the bytes of a record, whose values may be bad. */
+static void put_record(uint8_t *at, const struct imgproc_record *r) {
+    put(at, 0x5231, 2);
+    put(at + 2, r->flask, 4);
+    put(at + 6, r->pass, 2);
+    put(at + 8, r->width, 2);
+    put(at + 10, r->height, 2);
+    put(at + 12, r->counts.dark, 4);
+    put(at + 16, r->counts.light, 4);
+    put(at + 20, r->counts.skipped, 4);
+    put(at + 24, r->counts.comparisons, 4);
+}
+
+/* Returns the answer of a call to a record: the first reason that fits. No sum here wraps. */
+static uint32_t record_answer(int no_record, const struct imgproc_record *r) {
+    const uint64_t side = IMGPROC_MAX_SIDE, area = side * side;
+    const struct imgproc_counts *c = &r->counts;
+    if (no_record)
+        return IMGPROC_NO_RECORD;
+    if (r->width < 1 || r->width > side || r->height < 1 || r->height > side)
+        return IMGPROC_BAD_RECORD;
+    if (c->dark > area || c->light > area || c->skipped > area ||
+        c->dark + c->light + c->skipped != (uint64_t)r->width * r->height)
+        return IMGPROC_BAD_RECORD;
+    return c->comparisons < TWO_32 ? IMGPROC_ACCEPTED : IMGPROC_BAD_RECORD;
+}
+
+#define RECORD_ROOM 44
+
+/* Writes a record into len bytes, by the named call and by the flat one, and returns the answer. Checks that a refused
+   call changes no byte, and an accepted one only the record's. */
+static uint32_t write_record(const struct imgproc_record *r, size_t len) {
+    static uint8_t room[2][RECORD_ROOM], expected[RECORD_ROOM];
+    const struct imgproc_bytes lent = {room[0], len};
+    const struct imgproc_record before = *r;
+    uint32_t named, flat;
+    memset(room, 0xaa, sizeof room);
+    memset(expected, 0xaa, sizeof expected);
+    named = imgproc_write_record(r, lent);
+    flat = imgproc_record_write(r->flask, r->pass, r->width, r->height, r->counts.dark, r->counts.light,
+                                r->counts.skipped, r->counts.comparisons, room[1], len);
+    same(named, flat, "imgproc_write_record");
+    check(flat == record_answer(len < 28, r), "the answer of imgproc_record_write");
+    if (flat == IMGPROC_ACCEPTED)
+        put_record(expected, r);
+    check(memcmp(room[0], expected, sizeof expected) == 0 && memcmp(room[1], expected, sizeof expected) == 0,
+          "the bytes that imgproc_record_write leaves");
+    check(same_records(r, &before), "imgproc_write_record changes the record");
+    return flat;
+}
+
+/* Reads a record out of len bytes, by the named call and by the flat one, and returns the answer. `held` is the record
+   that the bytes hold after their mark. Checks that a refused call changes no number, and that no byte changes. */
+static uint32_t read_record(const uint8_t *source, size_t len, const struct imgproc_record *held) {
+    static uint8_t before[RECORD_ROOM];
+    const struct imgproc_record other = {11, 12, 13, 14, {15, 16, 17, 18}};
+    struct imgproc_record found = other, flatly = other;
+    uint32_t named, flat;
+    memcpy(before, source, len);
+    named = imgproc_read_record(source, len, &found);
+    flat = imgproc_record_read(source, len, &flatly.flask, &flatly.pass, &flatly.width, &flatly.height,
+                               &flatly.counts.dark, &flatly.counts.light, &flatly.counts.skipped,
+                               &flatly.counts.comparisons);
+    same(named, flat, "imgproc_read_record");
+    check(flat == record_answer(len < 28 || source[0] != 0x52 || source[1] != 0x31, held),
+          "the answer of imgproc_record_read");
+    check(same_records(&found, flat == IMGPROC_ACCEPTED ? held : &other) && same_records(&found, &flatly),
+          "the numbers that imgproc_record_read leaves");
+    check(memcmp(before, source, len) == 0, "imgproc_record_read changes a byte");
+    return flat;
+}
+
+/* Writes and reads a record whose numbers fit their fields, with every length from 0 to 40 and with other marks.
+   Returns the answer where there are bytes enough. */
+static uint32_t keep_record(const struct imgproc_record *r) {
+    uint8_t bytes[RECORD_ROOM];
+    const uint32_t answer = record_answer(0, r);
+    size_t len;
+    int bit;
+    memset(bytes, (int)below(256), sizeof bytes);
+    put_record(bytes, r);
+    for (len = 0; len <= 40; len++) {
+        const uint32_t first = len < 28 ? (uint32_t)IMGPROC_NO_RECORD : answer;
+        check(write_record(r, len) == first, "a length of a destination");
+        check(read_record(bytes, len, r) == first, "a length of a source");
+    }
+    for (bit = 0; bit < 16; bit++) {
+        bytes[bit / 8] ^= (uint8_t)(1 << bit % 8);
+        check(read_record(bytes, 28 + below(9), r) == IMGPROC_NO_RECORD, "another mark");
+        bytes[bit / 8] ^= (uint8_t)(1 << bit % 8);
+    }
+    bytes[0] = 0x31, bytes[1] = 0x52;
+    check(read_record(bytes, 28, r) == IMGPROC_NO_RECORD, "the mark's bytes exchanged");
+    return answer;
+}
+
+/* Checks the worked record against its 28 bytes. */
+static void check_worked(void) {
+    uint8_t bytes[40];
+    struct imgproc_record found = record_of(0, 0, 0, 0, 0, 0);
+    const struct imgproc_bytes lent = {bytes, sizeof bytes};
+    size_t i;
+    check(IMGPROC_RECORD_BYTES == 28 && IMGPROC_NO_RECORD == 13 && IMGPROC_BAD_RECORD == 14, "the numbers of records");
+    memset(bytes, 0xaa, sizeof bytes);
+    check(imgproc_write_record(&worked, lent) == IMGPROC_ACCEPTED, "the worked record is written");
+    check(memcmp(bytes, worked_bytes, 28) == 0, "the worked record's bytes");
+    for (i = 28; i < sizeof bytes; i++)
+        check(bytes[i] == 0xaa, "a byte after the worked record");
+    check(imgproc_read_record(worked_bytes, 28, &found) == IMGPROC_ACCEPTED, "the worked record is read");
+    check(same_records(&found, &worked), "the worked record's numbers");
+    check(keep_record(&worked) == IMGPROC_ACCEPTED, "the worked record is kept");
+}
+
+/* Checks each reason to refuse a record. */
+static void check_records(void) {
+    /* Numbers that fit their fields: limits, and then a side that is out of range or counts that do not add up, also if
+       they do modulo 2^32. */
+    static const struct {
+        size_t width, height;
+        uint64_t dark, light, skipped, comparisons;
+        uint32_t answer;
+    } fit[] = {
+        {40, 30, 480, 620, 100, 23520, 0}, {1, 1, 0, 0, 1, 0, 0}, {4096, 4096, 0, 1 << 24, 0, UINT32_MAX, 0},
+        {4096, 1, 1, 2, 4093, 9, 0}, {1, 4096, 4096, 0, 0, 9, 0},
+        {0, 30, 0, 0, 0, 9, 14}, {40, 0, 0, 0, 0, 9, 14}, {0, 0, 0, 0, 0, 9, 14}, {4097, 1, 4097, 0, 0, 9, 14},
+        {1, 4097, 0, 4097, 0, 9, 14}, {65535, 2, 0, 0, 131070, 9, 14}, {2, 65535, 131070, 0, 0, 9, 14},
+        {40, 30, 481, 620, 100, 9, 14}, {40, 30, 479, 620, 100, 9, 14}, {40, 30, 480, 621, 100, 9, 14},
+        {40, 30, 480, 619, 100, 9, 14}, {40, 30, 480, 620, 101, 9, 14}, {40, 30, 480, 620, 99, 9, 14},
+        {41, 30, 480, 620, 100, 9, 14}, {40, 29, 480, 620, 100, 9, 14}, {40, 30, 0, 0, 0, 9, 14},
+        {40, 30, UINT32_MAX, AREA + 1, 0, 9, 14}, {40, 30, AREA + 1, 0, UINT32_MAX, 9, 14},
+        {40, 30, UINT32_MAX, UINT32_MAX, AREA + 2, 9, 14}, {40, 30, TWO_32 / 2, TWO_32 / 2 + AREA, 0, 9, 14}};
+    /* Numbers that do not fit, and would be good if they were cut to their fields, or if a sum or a product wrapped. */
+    static const struct {
+        size_t width, height;
+        uint64_t dark, light, skipped, comparisons;
+    } large[] = {
+        {40, 30, 480, 620, 100, TWO_32}, {40, 30, 480, 620, 100, TWO_32 + 23520}, {40, 30, 480, 620, 100, UINT64_MAX},
+        {65536 + 40, 30, 480, 620, 100, 9}, {40, 65536 + 30, 480, 620, 100, 9},
+        {65537, 30, 30, 0, 0, 9}, {65537, 30, 65537 * 30, 0, 0, 9}, {40, 65537, 0, 65537 * 40, 0, 9},
+        {(size_t)TWO_32 + 40, 30, 480, 620, 100, 9}, {40, (size_t)TWO_32 + 30, 480, 620, 100, 9},
+        {SIZE_MAX - 65535 + 40, 30, 480, 620, 100, 9}, {40, SIZE_MAX - 65535 + 30, 480, 620, 100, 9},
+        {SIZE_MAX, SIZE_MAX, 1, 0, 0, 9}, {(size_t)TWO_32, (size_t)TWO_32, 0, 0, 0, 9},
+        {(size_t)TWO_63, 2, 0, 0, 0, 9}, {(size_t)TWO_63 + 40, 30, 480, 620, 100, 9},
+        {40, 30, TWO_32 + 480, 620, 100, 9}, {40, 30, 480, TWO_32 + 620, 100, 9}, {40, 30, 480, 620, TWO_32 + 100, 9},
+        {40, 30, UINT64_MAX, AREA + 1, 0, 9}, {40, 30, AREA + 1, UINT64_MAX, 0, 9}, {40, 30, AREA, 1, UINT64_MAX, 9},
+        {40, 30, 0, UINT64_MAX, AREA + 1, 9}, {40, 30, TWO_63, TWO_63 + AREA, 0, 9},
+        {40, 30, TWO_63, AREA, TWO_63, 9}, {40, 30, UINT64_MAX, UINT64_MAX, AREA + 2, 9}};
+    size_t i, len;
+    for (i = 0; i < sizeof fit / sizeof *fit; i++) {
+        const struct imgproc_record r =
+            record_of(fit[i].width, fit[i].height, fit[i].dark, fit[i].light, fit[i].skipped, fit[i].comparisons);
+        check(keep_record(&r) == fit[i].answer, "a case of a record");
+    }
+    for (i = 0; i < sizeof large / sizeof *large; i++) {
+        const struct imgproc_record r = record_of(large[i].width, large[i].height, large[i].dark, large[i].light,
+                                                  large[i].skipped, large[i].comparisons);
+        for (len = 0; len <= 40; len++)
+            check(write_record(&r, len) == (uint32_t)(len < 28 ? IMGPROC_NO_RECORD : IMGPROC_BAD_RECORD),
+                  "a number that does not fit");
+    }
+}
+
+/* Returns any 32 bits. */
+static uint32_t any_u32(void) {
+    const uint32_t high = (uint32_t)below(65536);
+    return high << 16 | (uint32_t)below(65536);
+}
+
+/* Writes and reads records of many kinds. */
+static void check_some_records(void) {
+    size_t i, seen[2] = {0, 0};
+    for (i = 0; i < 2000; i++) {
+        const size_t width = 1 + below(IMGPROC_MAX_SIDE), height = 1 + below(IMGPROC_MAX_SIDE), area = width * height;
+        const size_t dark = below(area + 1), light = below(area - dark + 1);
+        struct imgproc_record r = record_of(width, height, dark, light, area - dark - light, 0);
+        uint8_t bytes[RECORD_ROOM];
+        r.flask = any_u32();
+        r.pass = (uint16_t)below(65536);
+        r.counts.comparisons = any_u32();
+        switch (below(12)) {
+        case 0: r.width += 1; break;
+        case 1: r.height -= 1; break;
+        case 2: r.counts.dark ^= UINT64_C(1) << below(32); break;
+        case 3: r.counts.light ^= UINT64_C(1) << below(32); break;
+        case 4: r.counts.skipped ^= UINT64_C(1) << below(32); break;
+        default: break;
+        }
+        memset(bytes, (int)below(256), sizeof bytes);
+        put_record(bytes, &r);
+        seen[write_record(&r, 28 + below(9)) == IMGPROC_ACCEPTED]++;
+        read_record(bytes, 28 + below(9), &r);
+        /* The same with one bit of 64 changed. */
+        r.counts.comparisons ^= UINT64_C(1) << below(64);
+        write_record(&r, 28);
+        r.counts.skipped ^= UINT64_C(1) << below(64);
+        write_record(&r, 28);
+    }
+    check(seen[0] > 500 && seen[1] > 500, "too few records of one kind");
+}
+
+/* Keeps a reading as a record, which has to hold its numbers. */
+static void keep_reading(const struct imgproc_source *src, const struct imgproc_counts *counts) {
+    const struct imgproc_record r = {3, (uint16_t)below(65536), src->width, src->height, *counts};
+    uint8_t bytes[IMGPROC_RECORD_BYTES];
+    const struct imgproc_bytes lent = {bytes, sizeof bytes};
+    check(imgproc_write_record(&r, lent) == IMGPROC_ACCEPTED, "a reading is kept");
+    check(read_record(bytes, sizeof bytes, &r) == IMGPROC_ACCEPTED, "a reading is read back");
+}
+
 /* Returns good settings, or settings with one number out of range. */
 static struct imgproc_reading_settings some_settings(void) {
     struct imgproc_reading_settings s = IMGPROC_READING_DEFAULTS;
@@ -507,6 +755,7 @@ static void compare_calls(void) {
     if (flat == IMGPROC_ACCEPTED) {
         check(dark + light + skipped == src.width * src.height, "the sum of the counts");
         count_opened(&src, &s);
+        keep_reading(&src, &counts);
     } else
         check(memcmp(&counts, &left, sizeof counts) == 0, "a refused reading changes the counts");
     check(memcmp(counted, open_tiles[1], sizeof counted) == 0, "the counts of open tiles of a reading");
@@ -595,11 +844,11 @@ static void check_lengths(void) {
 
 static void check_words(void) {
     uint32_t a, b;
-    for (a = 0; a <= IMGPROC_WINDOW_TOO_LARGE; a++)
+    for (a = 0; a <= IMGPROC_BAD_RECORD; a++)
         for (b = 0; b < a; b++)
             check(strcmp(imgproc_refusal_words(a), imgproc_refusal_words(b)) != 0, "two refusals have the same words");
     check(strcmp(imgproc_refusal_words(11), imgproc_refusal_words(UINT32_MAX)) == 0 &&
-              strcmp(imgproc_refusal_words(11), imgproc_refusal_words(13)) == 0,
+              strcmp(imgproc_refusal_words(11), imgproc_refusal_words(15)) == 0,
           "the words of an unknown number");
 }
 
@@ -612,6 +861,9 @@ int main(void) {
     check_blanking();
     check_windows();
     check_narrow();
+    check_worked();
+    check_records();
+    check_some_records();
     for (i = 0; i < 4000; i++)
         compare_calls();
     check(readings[0] > 1000 && readings[1] > 1000, "too few readings of one kind");

@@ -3,3 +3,4 @@ pub mod Numbers
 pub mod Exporting
 pub mod GridNumbers
 pub mod ReadingNumbers
+pub mod RecordNumbers

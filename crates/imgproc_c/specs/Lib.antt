@@ -4,5 +4,6 @@ pub mod Exports
 pub mod Operators
 pub mod Grid
 pub mod Reading
+pub mod Records
 -- Laws about them.
 pub mod RefusedExactly

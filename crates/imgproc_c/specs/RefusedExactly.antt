@@ -1,10 +1,11 @@
--- When an export is refused that goes from picture to picture, takes the grid's method as a number, or sets or clears a
--- skip by hand: with n exactly when n is the number of the first condition of its list that fits, and then every lent
--- buffer is as it was. Assumes nothing.
-use Rattle.std.specs.Prelude.{ℕ, ◌<◌, ◌≡◌, ◌↔◌, List}
+-- When an export is refused that goes from picture to picture, takes the grid's method as a number, sets or clears a
+-- skip by hand, or writes or reads a record: with n exactly when n is the number of the first condition of its list
+-- that fits, and then every lent buffer, and for a record every lent number, is as it was. Assumes nothing.
+use Rattle.std.specs.Prelude.{ℕ, ◌<◌, ◌≡◌, refl, ◌↔◌, List}
 use Rattle.std.proofs.Common.{arith, sym, ap, ◌∙◌}
-use Rattle.image.specs.Answers.{Answer, accepted, refused, answer_number, Condition}
-use Rattle.image.specs.RefusedExactly.{FirstFits, Exactly, differ}
+use Rattle.image.specs.Answers.{Answer, accepted, refused, answer_number, bare, Condition}
+use Rattle.image.specs.Plane.{overwritten}
+use Rattle.image.specs.RefusedExactly.{FirstFits, Exactly, differ, exactly}
 use Rattle.imgproc.specs.declared.grid.TileCounts.{TileCounts}
 use Rattle.imgproc.specs.GridCalls.{BuildLent, BuildLeft, tiles_from}
 use Rattle.imgproc.specs.Calls.{Operator, Loan, Left, conditions_of, answer_of}
@@ -21,9 +22,15 @@ use Rattle.imgproc.specs.RefusedExactly.{
   reading_exactly,
   reading_keeps,
 }
-use Rattle.imgproc_c.specs.Exports.{Exports}
+use Rattle.records.specs.declared.record.Record.{Record}
+use Rattle.records.specs.Format.{encoded}
+use Rattle.records.specs.Refusals.{numbers as record_numbers, read_conditions as record_read_conditions}
+use Rattle.records.specs.Calls.{read_from as record_read}
+use Rattle.records.specs.RefusedExactly.{read_exactly}
+use Rattle.imgproc_c.specs.Exports.{Tells, Exports}
 use Rattle.imgproc_c.specs.Grid.{number_conditions, built_from, BuildsNumber, skip_answer, SetsSkipNumber}
 use Rattle.imgproc_c.specs.Reading.{number_conditions as read_conditions, read_from, ReadsNumber}
+use Rattle.imgproc_c.specs.Records.{flat_conditions, flat_answer, WritesNumber}
 
 -- the build
 module _ {method : ℕ} {lent : BuildLent} {held held' : TileCounts} {number : ℕ} {left : BuildLeft}
@@ -88,3 +95,29 @@ module _ {method : ℕ} {lent : ReadingLent} {held held' : ReadingNumbers} {numb
       → (left.dst ≡ lent.dst)
       × ((left.bytes ≡ lent.bytes) × ((left.u64s ≡ lent.u64s) × (left.open_tiles ≡ lent.open_tiles)))
   reading_number_keeps = reading_keeps export.reads
+
+-- the write of a record
+module _ {r : Record} {before after : List ℕ} {number : ℕ} (export : WritesNumber r before number after) where
+  pub record_write_exactly : (n : ℕ) → 0 < n
+      → (number ≡ n) ↔ FirstFits (record_numbers (flat_conditions r before)) n
+  record_write_exactly =
+      number_exactly
+      (flat_answer r before)
+      (exactly bare (record_numbers (flat_conditions r before)) refl)
+      export.answers
+
+  pub record_write_keeps : (n : ℕ) → 0 < n → number ≡ n → after ≡ before
+  record_write_keeps n p q =
+      let x = exactly (overwritten 0 (encoded r) before) (record_numbers (flat_conditions r before)) refl in
+      export.leaves ∙ rw ((x.refused_exactly n).1 ((record_write_exactly n p).0 q))
+
+-- the read of a record
+module _ (source : List ℕ) {held held' : Record} {number : ℕ}
+    (export : Tells (record_read source) held number held') where
+  pub record_read_exactly : (n : ℕ) → 0 < n
+      → (number ≡ n) ↔ FirstFits (record_numbers (record_read_conditions source)) n
+  record_read_exactly = number_exactly (record_read source) (read_exactly source) export.answers
+
+  pub record_read_keeps : (n : ℕ) → 0 < n → number ≡ n → held' ≡ held
+  record_read_keeps n p q =
+      export.hands_out ∙ rw (((read_exactly source).refused_exactly n).1 ((record_read_exactly n p).0 q))

@@ -4,13 +4,17 @@ ghost use Rattle.image.specs.Answers.{answered};
 ghost use Rattle.imgproc.specs.MorphologyCalls.{compared_answer};
 ghost use Rattle.imgproc.specs.Refusals.{error_number};
 ghost use Rattle.imgproc.specs.Reading.{read_answer};
+ghost use Rattle.records.specs.Refusals.{record_number};
 ghost use Rattle.imgproc_c.specs.Exports.{Tells, as_byte};
+ghost use Rattle.imgproc_c.specs.Records.{record_from};
 
 use image::Refusal;
 use imgproc::ImgProcError;
 use imgproc::grid::TileCounts;
 use imgproc::morphology::tally::{self, Tally};
 use imgproc::reading::ReadingCounts;
+use records::RecordError;
+use records::record::Record;
 
 // Stores the value in the lent number.
 pub(crate) fn told<T: Copy, E: Refusal>(answer: Result<T, E>, value: &mut T) -> u32
@@ -95,6 +99,40 @@ pub(crate) fn read(
             *light = counts.light;
             *skipped = counts.skipped;
             *comparisons = tally::comparisons(counts.tally);
+            0
+        }
+        Err(error) => error.number(),
+    }
+}
+
+// Stores the eight numbers of a record in the lent numbers, each of its own.
+pub(crate) fn recorded(
+    answer: Result<Record, RecordError>,
+    flask: &mut u32,
+    pass: &mut u16,
+    width: &mut usize,
+    height: &mut usize,
+    dark: &mut u64,
+    light: &mut u64,
+    skipped: &mut u64,
+    comparisons: &mut u64,
+) -> u32
+    ensures { Tells (answered record_number answer)
+        (record_from flask.old pass.old width.old height.old dark.old light.old skipped.old comparisons.old)
+        result
+        (record_from flask.new pass.new width.new height.new dark.new light.new skipped.new comparisons.new) }
+{
+    match answer {
+        Ok(record) => {
+            let entry = record.entry();
+            *flask = entry.flask;
+            *pass = entry.pass;
+            *width = entry.width;
+            *height = entry.height;
+            *dark = entry.dark;
+            *light = entry.light;
+            *skipped = entry.skipped;
+            *comparisons = entry.comparisons;
             0
         }
         Err(error) => error.number(),

@@ -10,5 +10,6 @@ pub mod illumination;
 pub mod morphology;
 pub mod picture;
 pub mod reading;
+pub mod record;
 pub mod root;
 pub mod threshold;

@@ -1,6 +1,8 @@
-//! Reads the picture of crates/column with the default settings and draws what was judged dark.
+//! Reads the picture of crates/column with the default settings, draws what was judged dark, and keeps the reading as a
+//! record.
 
 use imgproc::reading::{ReadingConfig, ReadingWorkspace};
+use imgproc::records::{Record, RECORD_BYTES};
 use imgproc::{Geometry, Refusal};
 
 const HEADER: usize = "P5 24 30 255\n".len();
@@ -16,5 +18,12 @@ fn main() -> Result<(), Refusal> {
     for row in marked.chunks(24) {
         println!("{}", row.iter().map(mark).collect::<String>());
     }
+
+    // Keeps it as the first pass over flask 1. The bytes go to standard error: standard output is the program's.
+    let record = Record::of_reading(1, 1, geometry, counts)?;
+    let mut bytes = [0; RECORD_BYTES];
+    record.write(&mut bytes)?;
+    assert_eq!(Record::read(&bytes)?, record);
+    eprintln!("record {}", bytes.map(|byte| format!("{byte:02x}")).join(" "));
     Ok(())
 }

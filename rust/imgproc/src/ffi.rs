@@ -94,6 +94,14 @@ extern "C" {
         bytes_len: usize, u64s: *mut u64, u64s_len: usize, open_tiles: *mut u16, open_tiles_len: usize, dark: *mut u64,
         light: *mut u64, skipped: *mut u64, comparisons: *mut u64,
     ) -> u32;
+    pub fn imgproc_record_write(
+        flask: u32, pass: u16, width: usize, height: usize, dark: u64, light: u64, skipped: u64, comparisons: u64,
+        destination: *mut u8, destination_len: usize,
+    ) -> u32;
+    pub fn imgproc_record_read(
+        source: *const u8, source_len: usize, flask: *mut u32, pass: *mut u16, width: *mut usize, height: *mut usize,
+        dark: *mut u64, light: *mut u64, skipped: *mut u64, comparisons: *mut u64,
+    ) -> u32;
     pub fn imgproc_root(x: f64) -> f64;
 }
 

@@ -38,6 +38,7 @@ pub mod illumination;
 pub mod image;
 pub mod morphology;
 pub mod reading;
+pub mod records;
 pub mod root;
 pub mod sauvola;
 

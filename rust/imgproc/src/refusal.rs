@@ -37,6 +37,11 @@ pub enum Refusal {
     GridBufferTooSmall,
     /// 12: a window has more than [`crate::sauvola::MAX_WINDOW`] pixels.
     WindowTooLarge,
+    /// 13: the bytes are fewer than [`crate::records::RECORD_BYTES`], or do not begin with a record's mark.
+    NoRecord,
+    /// 14: a record's side is not in 1..=[`crate::MAX_SIDE`], its counts do not add up to width * height, or a number
+    /// does not fit its field.
+    BadRecord,
     /// A number that these calls do not know.
     Unknown(u32),
 }
@@ -101,6 +106,8 @@ impl Refusal {
             Self::WorkspaceTooSmall => 8,
             Self::GridBufferTooSmall => 10,
             Self::WindowTooLarge => 12,
+            Self::NoRecord => 13,
+            Self::BadRecord => 14,
             Self::Unknown(number) => number,
         }
     }
@@ -120,6 +127,8 @@ impl Refusal {
             9 => Self::Image(LumaError::OutsidePicture),
             10 => Self::GridBufferTooSmall,
             12 => Self::WindowTooLarge,
+            13 => Self::NoRecord,
+            14 => Self::BadRecord,
             other => Self::Unknown(other),
         })
     }
@@ -133,6 +142,8 @@ impl Refusal {
             Self::WorkspaceTooSmall => "the workspace is too short",
             Self::GridBufferTooSmall => "a grid buffer is too short",
             Self::WindowTooLarge => "a window has too many pixels",
+            Self::NoRecord => "the bytes are too few for a record, or have another mark",
+            Self::BadRecord => "no record has these numbers",
             Self::Unknown(_) => "the reason is not known here",
         }
     }

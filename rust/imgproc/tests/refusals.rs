@@ -13,12 +13,15 @@ fn numbers_go_both_ways() {
     }
     assert_eq!(Refusal::from_number(11), Some(Refusal::Unknown(11)));
     assert_eq!(Refusal::from_number(12), Some(Refusal::WindowTooLarge));
+    assert_eq!(Refusal::from_number(13), Some(Refusal::NoRecord));
+    assert_eq!(Refusal::from_number(14), Some(Refusal::BadRecord));
+    assert_eq!(Refusal::from_number(15), Some(Refusal::Unknown(15)));
 }
 
 #[test]
 fn words_are_those_of_the_header() {
     let header = include_str!("../../../include/imgproc_settings.h");
-    for number in 1..=13 {
+    for number in 1..=15 {
         let shown = Refusal::from_number(number).unwrap().to_string();
         let words = shown.strip_prefix(&format!("refused {number}: ")).unwrap();
         assert!(header.contains(&format!("return \"{words}\";")), "{words}");
