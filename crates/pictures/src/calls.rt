@@ -1,12 +1,15 @@
 // Makes the public calls, each by the number that a list gives it.
 use crate::buffers::Lent;
 use crate::numbers::narrow;
-use crate::reply::{Answer, told};
+use crate::reply::{Answer, told, with_value};
 use crate::settings;
 use crate::settings::Numbers;
 use image::Geometry;
 use imgproc::grid::TileThresholdGrid;
-use imgproc::{illumination, morphology, reading, threshold};
+use imgproc::reading::ReadingCounts;
+use imgproc::{ImgProcError, illumination, morphology, reading, threshold};
+use records::RecordError;
+use records::record::Record;
 
 // Copies as many bytes as both slices have, and returns their number.
 fn copy(from: &[u8], to: &mut [u8]) -> usize {
@@ -19,14 +22,29 @@ fn copy(from: &[u8], to: &mut [u8]) -> usize {
 fn row(g: Geometry, y: usize, from: &[u8], to: &mut [u8]) -> Answer {
     let number = image::answer_number(image::check_row(from.len(), g, y));
     let copied = copy(image::row(from, g, y), to);
-    [number as usize, copied, 0, 0, 0]
+    with_value(number as usize, copied)
 }
 
 // Writes the other slice through the row that is handed out.
 fn row_mut(g: Geometry, y: usize, from: &[u8], to: &mut [u8]) -> Answer {
     let number = image::answer_number(image::check_row(to.len(), g, y));
     let copied = copy(from, image::row_mut(to, g, y));
-    [number as usize, copied, 0, 0, 0]
+    with_value(number as usize, copied)
+}
+
+// Writes the record of a reading to a slice. The flask, the pass and the sides stand behind the reading's settings.
+fn keep(f: Numbers, counts: ReadingCounts, to: &mut [u8]) -> Result<(), RecordError> {
+    let record = Record::of_reading(narrow(f[24]), narrow(f[25]), settings::sides(f), counts)?;
+    record.write(to)
+}
+
+// Keeps a reading if it is accepted, and adds the number that keeping it answers to the reading's four.
+fn kept(read: Result<ReadingCounts, ImgProcError>, f: Numbers, to: &mut [u8]) -> Answer {
+    let mut answer = told(read);
+    if let Ok(counts) = read {
+        answer[5] = image::answer_number(keep(f, counts, to)) as usize;
+    }
+    answer
 }
 
 // Makes the call of the first number. These numbers stand in the lists, and here alone: an enum of the calls would only
@@ -70,16 +88,21 @@ pub(crate) fn call(f: Numbers, lent: &mut Lent) -> Answer {
         18 => told(grid.row_all_skip(u16s, y)),
         19 => told(reading::reading(from, g, to, h, settings::reading(f), bytes, u64s, u16s)),
         // A line that does not fit has the length 0 in a list.
-        20 => [
+        20 => with_value(
             line,
             answer::answer(from, to, bytes, u64s, other).unwrap_or(0),
-            0,
-            0,
-            0,
-        ],
+        ),
         21 => told(grid.blank(to, u16s, k, y)),
         22 => told(grid.clear(to, u16s, k, y)),
         23 => told(threshold::sauvola_narrow_into(from, g, to, h, settings::sauvola(f), u32s)),
-        _ => [999, 0, 0, 0, 0],
+        24 => told(settings::record(f).write(to)),
+        25 => told(Record::read(from)),
+        26 => told(settings::entry(f).record()),
+        27 => kept(
+            reading::reading(from, g, to, h, settings::reading(f), bytes, u64s, u16s),
+            f,
+            other,
+        ),
+        _ => with_value(999, 0),
     }
 }

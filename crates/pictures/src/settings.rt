@@ -1,13 +1,16 @@
-// Makes the pictures and the settings of a call from its numbers. An offset is a pattern of 16 bits, a float one of 64.
+// Makes the pictures, the settings and the records of a call from its numbers. An offset is a pattern of 16 bits, a
+// float one of 64.
 use crate::numbers::narrow;
 use image::Geometry;
 use imgproc::grid::{SauvolaFloats, TileThresholdConfig, TileThresholdGrid, TileThresholdMethod};
 use imgproc::illumination::BackgroundDivideConfig;
 use imgproc::reading::ReadingConfig;
 use imgproc::threshold::SauvolaConfig;
+use records::entry::Entry;
+use records::record::Record;
 
 // The numbers of a call: its own first, then as many as any call has.
-pub(crate) type Numbers = [usize; 24];
+pub(crate) type Numbers = [usize; 28];
 
 fn geometry([width, height, stride]: [usize; 3]) -> Geometry {
     Geometry {
@@ -91,6 +94,39 @@ pub(crate) fn reading(f: Numbers) -> ReadingConfig {
         opening_kernel: f[10],
         grid: tiles([f[11], f[12], f[13], f[14], f[15], f[16], f[17], f[18]]),
         sauvola: window([f[19], f[20], f[21], f[22], f[23]]),
+    }
+}
+
+// Gives the sides that a record of a reading is made with. The stride does not matter.
+pub(crate) fn sides(f: Numbers) -> Geometry {
+    geometry([f[26], f[27], 0])
+}
+
+// Makes the record of a call's numbers. A list has no number that does not fit, which `narrow` would make 0.
+pub(crate) fn record(f: Numbers) -> Record {
+    Record {
+        flask: narrow(f[1]),
+        pass: narrow(f[2]),
+        width: narrow(f[3]),
+        height: narrow(f[4]),
+        dark: narrow(f[5]),
+        light: narrow(f[6]),
+        skipped: narrow(f[7]),
+        comparisons: narrow(f[8]),
+    }
+}
+
+// Makes the entry of a call's numbers.
+pub(crate) fn entry(f: Numbers) -> Entry {
+    Entry {
+        flask: narrow(f[1]),
+        pass: narrow(f[2]),
+        width: f[3],
+        height: f[4],
+        dark: f[5] as u64,
+        light: f[6] as u64,
+        skipped: f[7] as u64,
+        comparisons: f[8] as u64,
     }
 }
 

@@ -1,11 +1,12 @@
 //! Gives the answer of an accepted call, by the call's number. For the calls on pictures, for queries, and for tiles
-//! that are skipped by hand a plain computation here gives it, for the others the published Rust. The Rust counts
-//! neither comparisons nor open tiles: walk.rs and open.rs do.
+//! that are skipped by hand a plain computation here gives it, for records the one in records/plain.rs, for the others
+//! the published Rust. The Rust counts neither comparisons nor open tiles: walk.rs and open.rs do.
 
 use crate::chain::{self, Settings};
 use crate::list::{Answer, Written};
 use crate::open;
 use crate::picture::{Destination, Picture};
+use crate::records::plain;
 use crate::walk::comparisons;
 use qr_lab_imgproc::illumination::{background_divide_into, BackgroundDivideConfig, IlluminationWorkspace};
 use qr_lab_imgproc::morphology::{
@@ -39,6 +40,10 @@ pub const PROGRAM: u64 = 20;
 pub const BLANK: u64 = 21;
 pub const CLEAR: u64 = 22;
 pub const SAUVOLA_NARROW: u64 = 23;
+pub const WRITE_RECORD: u64 = 24;
+pub const READ_RECORD: u64 = 25;
+pub const MAKE_RECORD: u64 = 26;
+pub const KEEP_READING: u64 = 27;
 
 fn division(s: &[u64]) -> BackgroundDivideConfig {
     BackgroundDivideConfig {
@@ -85,17 +90,19 @@ pub fn reading(s: &[u64]) -> Settings {
 
 pub fn answer(n: &[u64], from: &[u8], held: Written) -> Answer {
     match n[0] {
-        LAYOUT..=UNPACK => plain(n, from, held),
+        LAYOUT..=UNPACK => on_picture(n, from, held),
         BUILD => built(n, from, held),
         THRESHOLD_AT | IS_SKIP => Answer { values: vec![query(n, from)], left: held },
         ROW_ALL_SKIP => Answer { values: vec![row_query(n, &held.open_tiles)], left: held },
         BLANK | CLEAR => skipped(n, held),
+        WRITE_RECORD..=MAKE_RECORD => plain::answer(n, from, held),
+        KEEP_READING => kept(n, from, held),
         _ => operator(n, from, held),
     }
 }
 
 /// Answers a call on a picture: pixel (x, y) is the byte at y * stride + x, and a plane is the rows one after another.
-fn plain(n: &[u64], from: &[u8], mut left: Written) -> Answer {
+fn on_picture(n: &[u64], from: &[u8], mut left: Written) -> Answer {
     let [width, height, stride, first, second] = [1, 2, 3, 4, 5].map(|i| n.get(i).map_or(0, |&number| number as usize));
     // With one row the stride does not matter, and may be larger than any memory.
     let stride = if height == 1 { 0 } else { stride };
@@ -158,6 +165,15 @@ fn operator(n: &[u64], from: &[u8], mut left: Written) -> Answer {
     let mut destination = Destination::lent(n[4] as usize, n[5] as usize, n[6] as usize, to);
     let values = values(n, &source, &mut destination, &mut left.open_tiles);
     left.to = destination.bytes;
+    Answer { values, left }
+}
+
+/// Makes a reading, and writes its record to the third slice. Four numbers behind its settings are the flask, the pass
+/// and the sides of the record. The number with which the record is refused, or 0, is the last value.
+fn kept(n: &[u64], from: &[u8], held: Written) -> Answer {
+    let Answer { mut values, mut left } = operator(n, from, held);
+    let numbers = [&n[24..], &values].concat().try_into().expect("eight numbers");
+    values.push(plain::keep(&numbers, &mut left.other));
     Answer { values, left }
 }
 

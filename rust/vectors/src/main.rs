@@ -16,6 +16,7 @@ mod picture;
 mod program;
 mod queries;
 mod readings;
+mod records;
 mod refusals;
 mod stored;
 mod walk;
@@ -25,7 +26,7 @@ use std::path::Path;
 use std::process::exit;
 use std::{env, fs};
 
-const LISTS: [(&str, fn() -> List); 24] = [
+const LISTS: [(&str, fn() -> List); 30] = [
     ("layouts", hand::layouts),
     ("places", hand::places),
     ("planes", hand::planes),
@@ -50,6 +51,12 @@ const LISTS: [(&str, fn() -> List); 24] = [
     ("reading", readings::reading),
     ("reading_refusals", refusals::reading),
     ("answers", program::list),
+    ("records", records::records),
+    ("record_refusals", records::refusals),
+    ("record_lengths", records::lengths),
+    ("record_bits", records::bits),
+    ("record_pairs", records::pairs),
+    ("record_readings", records::readings),
 ];
 
 /// Makes every file. Returns each path below crates/ with its text.

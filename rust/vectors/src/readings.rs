@@ -17,18 +17,18 @@ pub fn kernels(element: u64, opening: u64) -> Reading {
 }
 
 /// Changes some numbers of settings.
-fn with(mut settings: Reading, changes: &[(usize, u64)]) -> Reading {
+pub fn with(mut settings: Reading, changes: &[(usize, u64)]) -> Reading {
     changes.iter().for_each(|&(index, value)| settings[index] = value);
     settings
 }
 
 /// Sets tiles without neighbours, a contrast floor and a small window.
-fn tiled(settings: Reading, tile_width: u64, tile_height: u64, floor: u64) -> Reading {
+pub fn tiled(settings: Reading, tile_width: u64, tile_height: u64, floor: u64) -> Reading {
     with(settings, &[(4, tile_width), (5, tile_height), (6, 0), (7, floor), (12, 2)])
 }
 
 /// Returns a light picture with dark stripes in its left half, and one value in the right half.
-fn half_flat(width: usize, height: usize) -> Vec<u8> {
+pub fn half_flat(width: usize, height: usize) -> Vec<u8> {
     (0..width * height)
         .map(|i| match (i % width, i / width) {
             (x, _) if 2 * x >= width => 140,

@@ -27,19 +27,24 @@ pub fn room(which: u64, width: u64, height: u64, settings: &[u64]) -> [u64; 4] {
     }
 }
 
-/// Writes a call from a picture to a destination of its size, with a stride and a tail. A count buffer has as long a
+/// Makes a call from a picture to a destination of its size, with a stride and a tail. A count buffer has as long a
 /// tail.
-pub fn asked(l: &mut List, which: u64, picture: &Picture, stride: usize, tail: usize, settings: &[u64]) -> Answer {
+pub fn line(which: u64, picture: &Picture, stride: usize, tail: usize, settings: &[u64]) -> Line {
     let [width, height, from] = [picture.width, picture.height, picture.stride].map(|side| side as u64);
     let [bytes, u64s, rows, u32s] = room(which, width, height, settings);
     let rows = if rows == 0 { 0 } else { rows + tail as u64 };
     let to = stride * (picture.height - 1) + picture.width + tail;
-    l.accepted(&Line {
+    Line {
         numbers: [&[which, width, height, from, width, height, stride as u64], settings].concat(),
         lengths: [picture.bytes.len() as u64, to as u64, 0, bytes, u64s, rows, u32s],
         from: picture.bytes.clone(),
         ..Line::default()
-    })
+    }
+}
+
+/// Writes such a call.
+pub fn asked(l: &mut List, which: u64, picture: &Picture, stride: usize, tail: usize, settings: &[u64]) -> Answer {
+    l.accepted(&line(which, picture, stride, tail, settings))
 }
 
 pub type Settings<'a> = &'a [&'a [u64]];
