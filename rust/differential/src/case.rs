@@ -5,6 +5,7 @@ use crate::fault::Fault;
 use crate::guard::Guarded;
 use crate::limit::Limit;
 use crate::mistake::Mistake;
+use crate::records::slip::Slip;
 use crate::rng::Word;
 use std::borrow::Cow;
 
@@ -90,8 +91,16 @@ pub trait Case: Clone {
     fn limited(&self, _limit: Limit, _outcome: &mut Outcome) -> bool {
         false
     }
-    /// Returns the corners of the domain at which the case stands.
+    /// Changes the outcome to that of a call on records with this mistake, and tells whether the two differ.
+    fn slipped(&self, _slip: Slip, _outcome: &mut Outcome) -> bool {
+        false
+    }
+    /// Returns the corners of the domain at which the case stands, if it is accepted.
     fn corners(&self) -> Vec<Corner> {
+        Vec::new()
+    }
+    /// Returns the corners just outside the domain at which it stands, if it is refused with this number.
+    fn past_corners(&self, _number: u32) -> Vec<Corner> {
         Vec::new()
     }
     /// Returns simpler cases, for the search for the smallest one that still differs.
@@ -108,6 +117,7 @@ pub fn held<'a, C: Case>(case: &'a C, fault: &mut Option<Fault>) -> Result<Expec
         None => false,
         Some(Fault::Mistaken(mistake)) => outcome.number == 0 && case.mistaken(mistake, &mut outcome),
         Some(Fault::Limited(limit)) => case.limited(limit, &mut outcome),
+        Some(Fault::Slipped(slip)) => case.slipped(slip, &mut outcome),
         Some(kind) => kind.plant(&mut outcome, &case.places()),
     };
     if planted {

@@ -1,6 +1,8 @@
-//! The corners of the domain: sides and settings at the limits of what is compared with the Rust.
+//! The corners of the domain: sides and settings at the limits of what is compared with the Rust, and the limits of
+//! records.
 
 use crate::document;
+use crate::records::edge::Edge;
 use imgproc::grid::TileThresholdConfig;
 use imgproc::MAX_SIDE;
 use Corner::*;
@@ -35,6 +37,8 @@ pub enum Corner {
     OftenWrappedTable,
     LargestOffset,
     LeastOffset,
+    /// A limit of a record, kept or just passed.
+    Record(Edge),
 }
 
 impl Corner {
@@ -56,6 +60,7 @@ impl Corner {
             OftenWrappedTable => "squares past 32 bits 254 times",
             LargestOffset => "offset 32512",
             LeastOffset => "offset -32768",
+            Record(edge) => edge.label(),
         }
     }
 }

@@ -3,6 +3,7 @@
 use crate::case::{Buffer, Outcome, Places};
 use crate::limit::Limit;
 use crate::mistake::Mistake;
+use crate::records::slip::Slip;
 use Fault::*;
 
 #[derive(Clone, Copy, Debug, PartialEq, Eq)]
@@ -31,12 +32,16 @@ pub enum Fault {
     Mistaken(Mistake),
     /// What another limit of the narrow Sauvola's window would answer; the case works it out.
     Limited(Limit),
+    /// What a mistake of a call on records would leave or answer; the case works it out.
+    Slipped(Slip),
 }
 
 /// Faults of a call that answers a number and is lent nothing.
 pub const ANSWERING: &[Fault] = &[Refusal, Accepted, Refused];
 /// Faults of a call that reads one lent buffer.
 pub const ASKING: &[Fault] = &[Source, Refusal, Accepted, Refused, SpoiltBuffer(0), Past(0)];
+/// Faults of a call that writes its one lent buffer.
+pub const SETTING: &[Fault] = &[Byte, Beside, Refusal, Accepted, Refused, SpoiltBuffer(0), Past(0)];
 /// Seven faults of every call that writes, then two of each written buffer.
 const WRITING: &[Fault] = &[
     Byte,
@@ -93,7 +98,7 @@ impl Fault {
             Self::SpoiltCount(name) => !accepted && flip_count(outcome, name),
             Self::SpoiltBuffer(buffer) => !accepted && flip(outcome, Some((buffer, 0))),
             Self::Past(buffer) => flip_past(outcome, buffer),
-            Self::Mistaken(_) | Self::Limited(_) => false,
+            Self::Mistaken(_) | Self::Limited(_) | Self::Slipped(_) => false,
         }
     }
 }

@@ -1,16 +1,13 @@
 //! Compares the image calls: layout, pixels and rows, packed planes.
 
 use crate::corner;
-use crate::fault::Fault::{self, Accepted, Beside, Byte, Past, Refusal, Refused, SpoiltBuffer};
-use crate::fault::{writing, ANSWERING, ASKING, VALUE};
+use crate::fault::{writing, Fault, ANSWERING, ASKING, SETTING, VALUE};
 use crate::rng::Rng;
 use crate::run::{no_fixed, Checked, Plan, Run, Subject};
 
 mod layout;
 mod pixels;
 mod planes;
-
-const SET_FAULTS: &[Fault] = &[Byte, Beside, Refusal, Accepted, Refused, SpoiltBuffer(0), Past(0)];
 
 /// Declares a call that has no settings besides a layout.
 const fn subject(
@@ -35,7 +32,7 @@ pub const SUBJECTS: &[Subject] = &[
     subject(
         "set",
         &[1, 2, 3, 4, 9],
-        &[SET_FAULTS],
+        &[SETTING],
         150_000,
         |run, rng| pixels::random(run, rng, pixels::Call::Set),
         |run, plan| pixels::fixed(run, plan, pixels::Call::Set),

@@ -10,6 +10,9 @@ mod compare;
 mod make;
 mod shrink;
 
+pub use chain::Reading;
+pub use shrink::smaller as simpler;
+
 pub const SUBJECTS: &[Subject] = &[Subject {
     name: "reading",
     refuses: &[1, 2, 3, 4, 5, 6, 7, 8, 10],

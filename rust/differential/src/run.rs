@@ -42,7 +42,8 @@ pub struct Subject {
     pub name: &'static str,
     /// The numbers of its refusals; each has to occur.
     pub refuses: &'static [u32],
-    /// The corners of each setting that its call has. At every one a fixed case has to be accepted.
+    /// The corners of each setting that its call has. At every one a fixed case has to be accepted, or to be refused if
+    /// the corner is just outside the domain.
     pub corners: &'static [&'static [Corner]],
     /// Faults that its comparison has to report: of its buffers and refusals, then of each number that it gives.
     pub faults: &'static [&'static [Fault]],
@@ -73,7 +74,7 @@ pub type Count = BTreeMap<u32, u64>;
 #[derive(Default)]
 pub struct Run {
     pub counts: BTreeMap<&'static str, Count>,
-    /// The number of accepted cases by subject and corner.
+    /// The number of cases by subject and corner: accepted ones, or refused ones at a corner just outside the domain.
     pub corners: BTreeMap<(&'static str, Corner), u64>,
     /// The names of the numbers that calls gave, by subject.
     pub numbers: BTreeSet<(&'static str, &'static str)>,
@@ -105,14 +106,13 @@ impl Run {
     fn count<C: Case>(&mut self, case: &C, expected: &Expected<'_>) {
         *self.counts.entry(case.name()).or_default().entry(expected.number).or_default() += 1;
         self.numbers.extend(expected.outs.iter().map(|out| (case.name(), out.0)));
-        if expected.number == 0 {
-            for corner in case.corners() {
-                *self.corners.entry((case.name(), corner)).or_default() += 1;
-            }
+        let corners = if expected.number == 0 { case.corners() } else { case.past_corners(expected.number) };
+        for corner in corners {
+            *self.corners.entry((case.name(), corner)).or_default() += 1;
         }
     }
 
-    /// Returns the number of accepted cases of a subject at a corner.
+    /// Returns the number of cases of a subject at a corner.
     pub fn at(&self, subject: &Subject, corner: Corner) -> u64 {
         self.corners.get(&(subject.name, corner)).copied().unwrap_or(0)
     }
