@@ -187,6 +187,17 @@ pub fn row_mut(data: &mut [u8], geometry: Geometry, y: usize) -> &mut [u8]
     &mut data[start..end]
 }
 
+// Copies the bytes of a row over as many others. It is a loop and not std's copy, which asks the linker for C's `memmove`:
+// the static library needs no name from outside.
+pub(crate) fn copy_row(src: &[u8], dst: &mut [u8])
+    requires { length dst.old ≡ length src.now }
+    ensures { dst.new ≡ src.now }
+{
+    for (i, value) in src.iter().enumerate() {
+        dst[i] = *value;
+    }
+}
+
 // Copies the packed plane that starts at `at` of the workspace into the rows of a picture. A destination and its
 // geometry stay two parameters, here and wherever one is passed on: the borrow checker covers no struct with a `&mut`
 // slice inside that is passed on by value, and were it lent, each contract would have to say that both stay.
@@ -205,7 +216,7 @@ fn unpack_rows(workspace: &[u8], at: usize, dst: &mut [u8], geometry: Geometry)
         let from_end = from + width;
         let start = y * stride;
         let end = start + width;
-        dst[start..end].copy_from_slice(&workspace[from..from_end]);
+        copy_row(&workspace[from..from_end], &mut dst[start..end]);
     }
 }
 

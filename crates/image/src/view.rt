@@ -6,7 +6,7 @@ ghost use Rattle.image.specs.Row.{Hands};
 ghost use Rattle.image.specs.Copy.{copy_number, Packs};
 ghost use Rattle.image.specs.Plane.{picture, overwritten};
 
-use crate::{CopyError, Geometry, LumaError, validate_layout};
+use crate::{CopyError, Geometry, LumaError, copy_row, validate_layout};
 
 // A picture to be read. That its slice holds it is a fact of the type, so nobody checks its layout again.
 #[derive(Clone, Copy)]
@@ -50,7 +50,7 @@ impl<'a> Gray8View<'a> {
         for y in 0..self.geometry.height {
             let to = at + y * width;
             let to_end = to + width;
-            workspace[to..to_end].copy_from_slice(self.row(y));
+            copy_row(self.row(y), &mut workspace[to..to_end]);
         }
     }
 

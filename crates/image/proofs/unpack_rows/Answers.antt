@@ -13,7 +13,7 @@ loop-y-preserved c =
     let k = c.requires.0 in
     let y = c.loop-y.y in
     let t = c.loop-y-test.true in
-    rows_next _ _ _ _ _ y c.loop-y.invariant k.wide k.stride (row_within k y t) c.copy_from_slice.new.self
-    (from_long a.workspace.now a.at a.geometry.width a.geometry.height c.requires.1 y t c.copy_from_slice.ensures.after)
-    (from_pixel a.workspace.now a.at a.geometry.width a.geometry.height c.requires.1 y t c.copy_from_slice.ensures.after)
+    rows_next _ _ _ _ _ y c.loop-y.invariant k.wide k.stride (row_within k y t) c.copy_row.new.dst
+    (from_long a.workspace.now a.at a.geometry.width a.geometry.height c.requires.1 y t c.copy_row.ensures)
+    (from_pixel a.workspace.now a.at a.geometry.width a.geometry.height c.requires.1 y t c.copy_row.ensures)
     t

@@ -6,7 +6,10 @@ ghost use Rattle.imgproc.specs.GridCalls.{open_in, open_tiles_in};
 
 use crate::grid::TileCounts;
 
-// Counts the open tiles of tile row j, from the skip bytes of a grid with `tiles_x` tiles in a row.
+// Counts the open tiles of tile row j, from the skip bytes of a grid with `tiles_x` tiles in a row. It stays a function of
+// its own: inlined into `count_open`, rows of no tiles become a call of C's `memset`, and the static library needs no name
+// from outside.
+#[inline(never)]
 pub(crate) fn count_row(skips: &[u8], tiles_x: usize, j: usize) -> u16
     requires { (j * tiles_x + tiles_x ≤ length skips.now) × (tiles_x ≤ side_limit) }
     ensures { result ≡ open_in skips.now tiles_x j }

@@ -66,6 +66,7 @@ impl<'a> TileTable<'a> {
     }
 
     // Joins the numbers of the tiles of an area of the grid.
+    #[inline(always)]
     fn join_rows(self, area: Area) -> TileNumbers
         requires { Within area self.tiles.tiles_x self.tiles.tiles_y }
         ensures { result
@@ -79,7 +80,9 @@ impl<'a> TileTable<'a> {
         numbers
     }
 
-    // Joins the numbers of all tiles within the radius of tile (i, j).
+    // Joins the numbers of all tiles within the radius of tile (i, j). Inlined into the loop of each rule, as `join_rows`
+    // is, so that the table need not be handed over for each tile.
+    #[inline(always)]
     pub(crate) fn join_around(self, i: usize, j: usize) -> TileNumbers
         requires { (i < self.tiles.tiles_x) × (j < self.tiles.tiles_y) }
         ensures joined { result

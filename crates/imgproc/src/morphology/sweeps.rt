@@ -84,7 +84,9 @@ fn copy_lanes(ws: &mut [u8], from: usize, to: usize, lanes: usize)
     requires { (from + lanes ≤ length ws.old) × (to + lanes ≤ length ws.old) × Apart from lanes to lanes }
     ensures { Rowed to lanes (λ x. get_or ws.old (from + x) 0) ws.old ws.new }
 {
-    ws.copy_within(from..from + lanes, to);
+    for x in 0..lanes {
+        ws[to + x] = ws[from + x];
+    }
 }
 
 // Writes a row of lanes at `to`: each gets the extreme of its samples at `a` and at `b`.

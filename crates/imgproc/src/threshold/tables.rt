@@ -7,17 +7,18 @@ ghost use Rattle.imgproc.specs.Tables.{wide_modulus, TableRows, Tables, Corners,
 use crate::reach::Area;
 use image::Gray8View;
 
-// Writes the row of zeros above the picture, in both tables.
+// Writes the row of zeros above the picture, in both tables. One loop writes both: the compiler makes a call of C's
+// `memset` of std's `fill`, and the static library needs no name from outside.
 fn table_top(source: Gray8View<'_>, workspace: &mut [u64], at: usize)
     requires { at + table_entries source.geometry.width source.geometry.height ≤ length workspace.old }
     ensures { TableRows wide_modulus source.entry.pixels.now source.entry.geometry at 1 workspace.new }
 {
     let wide = source.geometry.width + 1;
     let squares = at + wide * (source.geometry.height + 1);
-    let sums_end = at + wide;
-    let squares_end = squares + wide;
-    workspace[at..sums_end].fill(0);
-    workspace[squares..squares_end].fill(0);
+    for i in 0..wide {
+        workspace[at + i] = 0;
+        workspace[squares + i] = 0;
+    }
 }
 
 // Writes the row of both tables below row y of the picture: the entry above, and the row's sums so far.

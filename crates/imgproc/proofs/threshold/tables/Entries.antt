@@ -8,15 +8,9 @@ use mathlib.Core.List.{List}
 use lib.Arith.{digits_div, digits_mod}
 use lib.ListN.{length, set, get_or, length-set}
 use lib.Seq.{get_or-set_same, get_or-set_other}
-use Rattle.std.proofs.Common.{replicate}
-use Rattle.std.proofs.lemmas.List.{length-replicate, get_or-replicate}
 use borrow.Author.Count.{below_more}
 use Rattle.image.specs.declared.Geometry.{Geometry}
 use Rattle.image.specs.Layout.{side_limit}
-use Rattle.image.specs.FillLaws.{put_row, lent_row}
-use Rattle.image.specs.Plane.{part, overwritten}
-use borrow.Rule.Slice.PartMut.{put_mid}
-use Rattle.image.specs.PlaneLaws.{length-overwritten, overwritten_before, overwritten_within}
 use Rattle.imgproc.specs.Refusals.{table_entries}
 use Rattle.imgproc.specs.Sums.{squared, sum_to, box_sum}
 use Rattle.imgproc.specs.SumLaws.{sum_none, sum_more, sum_le, box_top, box_left, box_down, box_le}
@@ -57,6 +51,10 @@ module _ (modulus : ℕ) (f : ℕ → ℕ → ℕ) (wide base n : ℕ) (ws : Lis
   holds_other j o h k m = get_or-set_other ws j (base + k) v 0 (o k m) ∙ h k m
 
 module _ (modulus : ℕ) (f : ℕ → ℕ → ℕ) (w h base : ℕ) where
+  -- no entry of either
+  pub both_none : (ws : List ℕ) → base + table_entries w h ≤ length ws → Both modulus f w h base 0 ws
+  both_none ws r = record { sums = λ k l. absurd (omega arith); squares = λ k l. absurd (omega arith); room = r }
+
   -- one entry more of both tables
   pub both_more :
       (n : ℕ) {ws : List ℕ} (u v : ℕ)
@@ -202,69 +200,13 @@ row_end {modulus} {d} {g} {base} {y} {x = x} {ws = ws} t r e =
       bytes = λ i j l m. below_more (λ j. pixels_of d g i j ≤ 255) y (λ j k. t.bytes i j l (omega arith)) (r.bytes i (omega arith)) j (omega arith);
     }
 
--- w zeros, filled into the part from a on
-filled : (a w : ℕ) (l : List ℕ) {r : List ℕ} → a + w ≤ length l → r ≡ replicate (length (part a (a + w - a) l)) 0
-    → put_mid a (a + w - a) l r ≡ overwritten a (replicate w 0) l
-filled a w l {r} fits e =
-    let z : r ≡ replicate w 0 = e ∙ ap (λ (n : ℕ). replicate n 0) (lent_row a w l fits) in
-    put_row a w l r (ap length z ∙ length-replicate w 0) ∙ ap (λ (p : List ℕ). overwritten a p l) z
-
-module _ (modulus : ℕ) (d : List ℕ) (g : Geometry) (base : ℕ) (ws : List ℕ) (room : base + table_entries g.width g.height ≤ length ws) where
-  abbrev wide : ℕ
-  wide = g.width + 1
-
-  abbrev area : ℕ
-  area = wide * (g.height + 1)
-
-  zeros : List ℕ
-  zeros = replicate wide 0
-
-  once : List ℕ
-  once = overwritten base zeros ws
-
-  top_zeros : TableRows modulus d g base 1 (overwritten (base + area) zeros once)
-  unfolding zeros once
-  top_zeros =
-      let f = pixels_of d g in
-      let first : wide ≤ area = omega (arith, mul-le-mul_right {m = 1} {n = g.height + 1} wide (omega arith)) in
-      let n : length zeros ≡ wide = length-replicate wide 0 in
-      let l : length once ≡ length ws = length-overwritten base zeros ws (omega arith) in
-      let one : wide ≡ 1 * wide = omega arith in
-      record {
-        both =
-            subst (λ (n : ℕ). Both modulus f g.width g.height base n (overwritten (base + area) zeros once)) one
-            (record {
-              sums =
-                  λ k m.
-                  overwritten_before (base + area) zeros once (omega arith) (base + k) (omega arith)
-                  ∙ overwritten_within base zeros ws (omega arith) k (omega arith)
-                  ∙ get_or-replicate wide k 0 0 m
-                  ∙ entry_top modulus f wide k m;
-              squares =
-                  λ k m.
-                  overwritten_within (base + area) zeros once (omega arith) k (omega arith)
-                  ∙ get_or-replicate wide k 0 0 m
-                  ∙ entry_top modulus (squared f) wide k m;
-              room = omega (arith, length-overwritten (base + area) zeros once (omega arith));
-            });
-        bytes = λ x y l m. absurd (omega arith);
-      }
-
-  -- the row of zeros above the picture, filled into both tables
-  pub top_filled : {r q : List ℕ}
-      → r ≡ replicate (length (part base (base + wide - base) ws)) 0
-      → q ≡ replicate (length (part (base + area) (base + area + wide - (base + area)) (put_mid base (base + wide - base) ws r))) 0
-      → TableRows modulus d g base 1
-      (put_mid (base + area) (base + area + wide - (base + area)) (put_mid base (base + wide - base) ws r) q)
-  unfolding zeros once
-  top_filled {r} {q} e k =
-      let first : wide ≤ area = omega (arith, mul-le-mul_right {m = 1} {n = g.height + 1} wide (omega arith)) in
-      let n : length zeros ≡ wide = length-replicate wide 0 in
-      let l : length once ≡ length ws = length-overwritten base zeros ws (omega arith) in
-      let sums : put_mid base (base + wide - base) ws r ≡ once = filled base wide ws (omega arith) e in
-      let k' = subst (λ (l : List ℕ). q ≡ replicate (length (part (base + area) (base + area + wide - (base + area)) l)) 0) sums k in
-      let squares : put_mid (base + area) (base + area + wide - (base + area)) (put_mid base (base + wide - base) ws r) q
-      ≡ overwritten (base + area) zeros once =
-      ap (λ (l : List ℕ). put_mid (base + area) (base + area + wide - (base + area)) l q) sums
-      ∙ filled (base + area) wide once (omega arith) k' in
-      subst (TableRows modulus d g base 1) (sym squares) top_zeros
+-- the row above the picture is whole
+pub row_top :
+    {modulus : ℕ} {d : List ℕ} {g : Geometry} {base n : ℕ} {ws : List ℕ}
+    → Both modulus (pixels_of d g) g.width g.height base n ws
+    → n ≡ g.width + 1
+    → TableRows modulus d g base 1 ws
+row_top {modulus} {d} {g} {base} {n} {ws} b e = record {
+  both = subst (λ (k : ℕ). Both modulus (pixels_of d g) g.width g.height base k ws) (omega arith) b;
+  bytes = λ x y l m. absurd (omega arith);
+}

@@ -13,10 +13,10 @@ fn table_top(source: Gray8View<'_>, workspace: &mut [u32], at: usize)
 {
     let wide = source.geometry.width + 1;
     let squares = at + wide * (source.geometry.height + 1);
-    let sums_end = at + wide;
-    let squares_end = squares + wide;
-    workspace[at..sums_end].fill(0);
-    workspace[squares..squares_end].fill(0);
+    for i in 0..wide {
+        workspace[at + i] = 0;
+        workspace[squares + i] = 0;
+    }
 }
 
 // Writes the row of both tables below row y of the picture: the entry above, and the row's sums so far.

@@ -21,18 +21,18 @@ fits c =
     fill_fits a.self.geometry.width a.self.geometry.height (pixel a.self.pixels.now a.self.geometry.stride) a.at a.workspace.now c.requires
     c.loop-y.y c.loop-y.invariant c.loop-y-test.true
 
-pub copy_from_slice-requires : goal.copy_from_slice-requires
-copy_from_slice-requires c =
+pub copy_row-requires : goal.copy_row-requires
+copy_row-requires c =
     let a = c.args in
     let to = a.at + c.loop-y.y * a.self.geometry.width in
-    lent_row to a.self.geometry.width c.loop-y.workspace (fits (goal.at.copy_from_slice-requires c).In-loop-y)
+    lent_row to a.self.geometry.width c.loop-y.workspace (fits (goal.at.copy_row-requires c).In-loop-y)
     ∙ sym (row_long a.self.pixels.now a.self.geometry c.args.self.kept c.loop-y.y c.loop-y-test.true c.row.ensures.bytes)
 
 pub loop-y-preserved : goal.loop-y-preserved
 loop-y-preserved c =
     let a = c.args in
-    let row = c.copy_from_slice.new.self in
-    let e = c.copy_from_slice.ensures.after ∙ c.row.ensures.bytes in
+    let row = c.copy_row.new.dst in
+    let e = c.copy_row.ensures ∙ c.row.ensures.bytes in
     fill_next a.self.geometry.width a.self.geometry.height (pixel a.self.pixels.now a.self.geometry.stride) a.at a.workspace.now c.requires
     c.loop-y.y c.loop-y.invariant c.loop-y-test.true row c.args.self.kept.wide
     (row_long a.self.pixels.now a.self.geometry c.args.self.kept c.loop-y.y c.loop-y-test.true e)
