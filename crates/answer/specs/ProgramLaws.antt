@@ -5,7 +5,7 @@ use Rattle.std.proofs.Common.{arith, sym, subst, ◌∙◌, length-append, lengt
 use Rattle.std.specs.Prelude.{◌≡◌, refl, Bool, cond, length, take, drop, Option, Some, None}
 use Rattle.std.proofs.Math.Path.{ap}
 use mathlib.Core.List.{List, ◌++◌}
-use Rattle.pgm.specs.Form.{Form, input_limit, PictureFound, Parsed, parsed_number, Answers}
+use Rattle.pgm.specs.Form.{header, Form, input_limit, PictureFound, Parsed, parsed_number, Answers}
 use Rattle.pgm.specs.Line.{line_room, refused_line, Writes}
 use Rattle.pgm.specs.ParseLaws.{parsed_by, start_parsed}
 use Rattle.answer.specs.Program.{picture_line, picture_marks, line_by, marks_by, program_line, program_marks}
@@ -15,12 +15,12 @@ use Rattle.answer.specs.Program.{Prints, ReadPart, PrintsStart}
 
 -- the picture of a form
 abbrev pub pictured : (input : List ℕ) (w h : ℕ) → Form input w h → PictureFound
-pictured input w h f = record { width = w; height = h; pixels = f.pixels }
+pictured input w h f = record { width = w; height = h; start = length (header w h); pixels = f.pixels }
 
 module _ (input : List ℕ) where
   pub line_picture : (w h : ℕ) (f : Form input w h) → program_line input ≡ picture_line w h f.pixels
   unfolding program_line
-  line_picture w h f = parsed_by line_by input (Some (pictured input w h f)) (record { form = f; same = refl })
+  line_picture w h f = parsed_by line_by input (Some (pictured input w h f)) (record { form = f; after = refl; same = refl })
 
   pub line_other : Answers input None → program_line input ≡ refused_line (parsed_number None)
   unfolding program_line
@@ -32,7 +32,7 @@ module _ (input : List ℕ) where
 
   pub marks_picture : (w h : ℕ) (f : Form input w h) (dst : List ℕ) →
       program_marks input dst ≡ picture_marks w h f.pixels dst
-  marks_picture w h f dst = marks_by_lem (Some (pictured input w h f)) (record { form = f; same = refl }) dst
+  marks_picture w h f dst = marks_by_lem (Some (pictured input w h f)) (record { form = f; after = refl; same = refl }) dst
 
 -- ---- the first bytes are enough
 

@@ -103,6 +103,7 @@ fn answer_picture(
         width,
         height,
         pixels,
+        ..
     } = picture;
     let geometry = Geometry {
         width,

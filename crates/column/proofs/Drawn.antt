@@ -111,7 +111,7 @@ module _ {input out dst part dst' : List ℕ} {n : ℕ} (k : Lined input out dst
   undrawn r a z = alone (program_line input) (program_rows input) out (part ++ drop line_room out) (rows_by_lem input r a ∙ z) line.answers begins
 
   -- the rows of a picture with no zero side
-  module _ (w h : ℕ) (pixels : List ℕ) (a : Pictured input (record { width = w; height = h; pixels = pixels })) (W : w ≡ 0 → ⊥) (H : h ≡ 0 → ⊥) where
+  module _ (w h start : ℕ) (pixels : List ℕ) (a : Pictured input (record { width = w; height = h; start = start; pixels = pixels })) (W : w ≡ 0 → ⊥) (H : h ≡ 0 → ⊥) where
     full : empty w h ≡ false
     full = rw (ne_eqb w 0 W, ne_eqb h 0 H)
 
@@ -119,7 +119,7 @@ module _ {input out dst part dst' : List ℕ} {n : ℕ} (k : Lined input out dst
     left_marks : dst' ≡ painted_on dst (tight w h) (marked settings w h pixels)
     left_marks =
         k.answers.marks
-        ∙ marks_by_lem input (Some (record { width = w; height = h; pixels = pixels })) a dst
+        ∙ marks_by_lem input (Some (record { width = w; height = h; start = start; pixels = pixels })) a dst
         ∙ ap (λ (b : Bool). cond b dst (painted_on dst (tight w h) (marked settings w h pixels))) full
 
     pub length-marks : length dst' ≡ most_pixels
@@ -153,7 +153,7 @@ module _ {input out dst part dst' : List ℕ} {n : ℕ} (k : Lined input out dst
     rows_same : program_rows input ≡ rows_of w h (λ x y. ink_of (pixel dst' w x y))
     unfolding judgement
     rows_same =
-        rows_by_lem input (Some (record { width = w; height = h; pixels = pixels })) a
+        rows_by_lem input (Some (record { width = w; height = h; start = start; pixels = pixels })) a
         ∙ ap (λ (b : Bool). cond b [] (rows_of w h (λ x y. mark_of (judgement x y)))) full
         ∙ sym (plane_same (w + 1) h (row_byte (λ x y. ink_of (pixel dst' w x y)) w) (row_byte (λ x y. mark_of (judgement x y)) w) (omega arith) byte_is)
 

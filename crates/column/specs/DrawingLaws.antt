@@ -14,7 +14,7 @@ rows_by_lem input r a = parsed_by rows_by input r a
 
 -- the rows of an input that is a picture are the picture's
 pub rows_picture : (input : List ℕ) (w h : ℕ) (f : Form input w h) → program_rows input ≡ picture_rows w h f.pixels
-rows_picture input w h f = rows_by_lem input (Some (pictured input w h f)) (record { form = f; same = refl })
+rows_picture input w h f = rows_by_lem input (Some (pictured input w h f)) (record { form = f; after = refl; same = refl })
 
 -- an input that is no picture has no rows
 pub rows_other : (input : List ℕ) → Answers input None → program_rows input ≡ []

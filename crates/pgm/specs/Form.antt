@@ -47,10 +47,11 @@ longest = header_limit + side_limit * side_limit
 abbrev pub input_limit : ℕ
 input_limit = longest + 1
 
--- the values of a picture: its sides and its pixels
+-- the values of a picture: its sides, where its pixels start, and the pixels
 pub record PictureFound : Type 0 where
   pub width : ℕ
   pub height : ℕ
+  pub start : ℕ
   pub pixels : List ℕ
 
 -- what an input is parsed as: a picture, or none
@@ -68,7 +69,7 @@ parsed_number r = answer_number (found_answer r)
 
 -- the values of a picture that `parse` hands out, and what it parsed the input as
 abbrev pub values : Picture → PictureFound
-values p = record { width = p.width; height = p.height; pixels = p.pixels.now }
+values p = record { width = p.width; height = p.height; start = p.start; pixels = p.pixels.now }
 
 abbrev pub found : Result Picture Malformed → Parsed
 found (Ok p) = Some (values p)
@@ -78,9 +79,10 @@ found (Err e) = None
 abbrev pub parsed_answer : Result Picture Malformed → Answer PictureFound
 parsed_answer r = found_answer (found r)
 
--- the input has the form of the picture, with its sides and its pixels
+-- the input has the form of the picture, with its sides and its pixels, which start after the header
 pub record Pictured (input : List ℕ) (p : PictureFound) : Type 0 where
   pub form : Form input p.width p.height
+  pub after : p.start ≡ length (header p.width p.height)
   pub same : p.pixels ≡ form.pixels
 
 -- what an input is parsed as: a picture whose form it has; or none, where it has the form for no sides

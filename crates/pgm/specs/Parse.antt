@@ -19,7 +19,8 @@ sides = side_limit + 1
 
 -- the picture of w by h that an input with its header is: its pixels are what follows the header
 abbrev pub headed_by : List ℕ → ℕ → ℕ → PictureFound
-headed_by input w h = record { width = w; height = h; pixels = drop (length (header w h)) input }
+headed_by input w h =
+    let start = length (header w h) in record { width = w; height = h; start = start; pixels = drop start input }
 
 -- tries the first n pairs of sides, the last first: the picture of the pair of which the input is one, or none. The pair
 -- (w, h) is number w × 61 + h

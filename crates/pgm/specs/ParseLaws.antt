@@ -58,7 +58,7 @@ tried_more : (input : List ℕ) (n : ℕ) (b : Bool) (r : Parsed) → n < sides 
     Tried input (suc n) (cond b (Some (headed_by input (n / sides) (n % sides))) r)
 unfolding formed_form
 tried_more input n true r l e k =
-    record { form = formed_form input (n / sides) (n % sides) (omega arith) (omega arith) e; same = refl }
+    record { form = formed_form input (n / sides) (n % sides) (omega arith) (omega arith) e; after = refl; same = refl }
 tried_more input n false (Some p) l e k = k
 tried_more input n false None l e k = λ i p. either i p (eqb i n) refl
   where
@@ -89,12 +89,13 @@ pub parsed_answers : (input : List ℕ) → Answers input (parsed_of input)
 unfolding parsed_of
 parsed_answers input = answers_tried input (sought input (sides * sides)) (tried input (sides * sides) (omega arith))
 
--- two pictures with the same sides and pixels are the same
-alike : (p q : PictureFound) → p.width ≡ q.width → p.height ≡ q.height → p.pixels ≡ q.pixels → p ≡ q
-alike p q w h d =
-    ap (λ (n : ℕ). record { width = n; height = p.height; pixels = p.pixels }) w
-    ∙ ap (λ (n : ℕ). record { width = q.width; height = n; pixels = p.pixels }) h
-    ∙ ap (λ (l : List ℕ). record { width = q.width; height = q.height; pixels = l }) d
+-- two pictures with the same sides, start and pixels are the same
+alike : (p q : PictureFound) → p.width ≡ q.width → p.height ≡ q.height → p.start ≡ q.start → p.pixels ≡ q.pixels → p ≡ q
+alike p q w h s d =
+    ap (λ (n : ℕ). record { width = n; height = p.height; start = p.start; pixels = p.pixels }) w
+    ∙ ap (λ (n : ℕ). record { width = q.width; height = n; start = p.start; pixels = p.pixels }) h
+    ∙ ap (λ (n : ℕ). record { width = q.width; height = q.height; start = n; pixels = p.pixels }) s
+    ∙ ap (λ (l : List ℕ). record { width = q.width; height = q.height; start = q.start; pixels = l }) d
 
 pub parsed_once : (input : List ℕ) (r s : Parsed) → Answers input r → Answers input s → r ≡ s
 parsed_once input (Some p) (Some q) a b =
@@ -104,8 +105,9 @@ parsed_once input (Some p) (Some q) a b =
     let s = same_header p.width p.height q.width q.height f.pixels k.pixels f.wide f.high k.wide k.high e in
     let w : p.width ≡ q.width = s.0 in
     let h : p.height ≡ q.height = s.1.0 in
+    let l : p.start ≡ q.start = a.after ∙ ap₂ (λ (v g : ℕ). length (header v g)) w h ∙ sym b.after in
     let d : p.pixels ≡ q.pixels = a.same ∙ s.1.1 ∙ sym b.same in
-    ap Some (alike p q w h d)
+    ap Some (alike p q w h l d)
 parsed_once input (Some p) None a b = absurd (b p.width p.height a.form)
 parsed_once input None (Some q) a b = absurd (a q.width q.height b.form)
 parsed_once input None None a b = refl

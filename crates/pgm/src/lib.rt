@@ -12,7 +12,6 @@ ghost use Rattle.pgm.specs.Steps.{NoSide, Sided, Puts};
 mod picture;
 
 use image::Refusal;
-use itoa::Buffer;
 pub use picture::{Malformed, Picture};
 
 impl Refusal for Malformed {
@@ -62,6 +61,7 @@ fn read_picture(input: &[u8]) -> Option<Picture<'_>>
     Some(Picture {
         width,
         height,
+        start: input.len() - pixels.len(),
         pixels,
     })
 }
@@ -124,15 +124,30 @@ fn put_text(out: &mut [u8], at: usize, text: &[u8]) -> usize
     at + text.len()
 }
 
+// Writes the decimal text of a number at a place, and answers the place after it. (std's `write!` promises its text only
+// where it answers Ok, and nothing promises that it does. The kit's `itoa` would be one more library that is trusted.)
+fn put_number(out: &mut [u8], at: usize, number: u64) -> usize
+    requires { at + length (decimal number) ≤ length out.old }
+    ensures { Puts (decimal number) at out.old result out.new }
+{
+    if number < 10 {
+        out[at] = b'0' + number as u8;
+        return at + 1;
+    }
+    let last = put_number(out, at, number / 10);
+    out[last] = b'0' + (number % 10) as u8;
+    last + 1
+}
+
 // Writes a number and the byte that follows it at a place, and answers the place after them. A number has at most 20
-// digits. (std's `write!` promises its text only where it answers Ok, and nothing promises that it does.)
+// digits.
 #[tactic(auto, using(crate::proofs::Writing::writing))]
 fn put_field(out: &mut [u8], at: usize, number: u64, end: u8) -> usize
     requires { at + 21 ≤ length out.old }
     ensures puts { Puts (decimal number ++ (end ∷ [])) at out.old result out.new }
     ensures near { result ≤ at + 21 }
 {
-    let next = put_text(out, at, Buffer::new().format(number).as_bytes());
+    let next = put_number(out, at, number);
     out[next] = end;
     next + 1
 }

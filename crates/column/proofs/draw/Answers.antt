@@ -21,7 +21,7 @@ draw_rows-requires c =
     let made = c.answer_and_mark in
     let input = c.args.input.now in
     let l = lined {input = input} {out = c.args.out.now} c.unwrap-length.ensures c.requires (omega arith) made.auto.out made.ensures in
-    room_rows l _ _ _ (parsed_as input c.in-Ok.is c.parse.ensures) c.if-picture-eq0.false c.if-picture-eq0-2.false
+    room_rows l _ _ _ _ (parsed_as input c.in-Ok.is c.parse.ensures) c.if-picture-eq0.false c.if-picture-eq0-2.false
 
 pub returns-in_default : goal.returns-in_default
 returns-in_default c =
@@ -42,4 +42,4 @@ returns c =
     let made = c.answer_and_mark in
     let input = c.args.input.now in
     let l = lined {input = input} {out = c.args.out.now} c.unwrap-length.ensures c.requires (omega arith) made.auto.out made.ensures in
-    drawn l _ _ _ (parsed_as input c.in-Ok.is c.parse.ensures) c.if-picture-eq0.false c.if-picture-eq0-2.false _ c.draw_rows.ensures
+    drawn l _ _ _ _ (parsed_as input c.in-Ok.is c.parse.ensures) c.if-picture-eq0.false c.if-picture-eq0-2.false _ c.draw_rows.ensures

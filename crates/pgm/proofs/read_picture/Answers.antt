@@ -1,11 +1,11 @@
 -- `read_picture` reads "P5 ", two sides and the ending, and counts the bytes that follow. It answers None at the first
 -- part that is not there: each law below says that no form of the input has another part there. Assumes nothing.
-use Rattle.std.proofs.Common.{◌≡◌, ℕ, ◌*◌, arith, List, ◌∷◌, ◌++◌, length, drop, refl, sym, ap, ap₂, ◌∙◌}
+use Rattle.std.proofs.Common.{◌≡◌, ℕ, ◌-◌, ◌*◌, arith, List, ◌∷◌, ◌++◌, length, drop, refl, sym, ap, ap₂, ◌∙◌, length-append}
 use Rattle.std.proofs.lemmas.Bool.Decides.{Decides-eqb}
 use Rattle.std.proofs.lemmas.Slice.Eq.{strip_prefix_is}
 use Rattle.std.specs.Prelude.{Some, None}
 use Rattle.pgm.specs.Decimal.{decimal}
-use Rattle.pgm.specs.Form.{magic, ending, Form, Pictured, Answers}
+use Rattle.pgm.specs.Form.{magic, ending, header, Form, Pictured, Answers}
 use Rattle.pgm.specs.FormLaws.{same_side, header_parts}
 use Rattle.pgm.specs.Steps.{Sided, NoSide}
 use Rattle.pgm.proofs.read_picture.Goals as goal
@@ -44,8 +44,9 @@ module _ (input first : List ℕ) (m : input ≡ magic ++ first) where
             let s = ap (drop 4) (sym e ∙ (after_height v g f).1) in
             n (ap length s ∙ f.counted ∙ sym (ap₂ ◌*◌ (after_width v g f).0 (after_height v g f).0))
 
-        formed : length pixels ≡ w * h → Pictured input (record { width = w; height = h; pixels = pixels })
-        formed n =
+        formed : (start : ℕ) → length pixels ≡ w * h → start ≡ length input - length pixels
+            → Pictured input (record { width = w; height = h; start = start; pixels = pixels })
+        formed start n s =
             let whole =
             m
             ∙ ap (λ (t : List ℕ). magic ++ t) wide.begins
@@ -54,6 +55,7 @@ module _ (input first : List ℕ) (m : input ≡ magic ++ first) where
             ∙ sym (header_parts w h pixels) in
             record {
               form = record { wide = wide.small; high = high.small; pixels = pixels; counted = n; whole = whole };
+              after = omega (arith, s, ap length whole, length-append (header w h) pixels);
               same = refl;
             }
 
@@ -78,4 +80,4 @@ pub returns : goal.returns
 returns c =
     let m = strip_prefix_is Decides-eqb c.args.input.now magic (Some c.in_ok-rest.rest) c.in_ok-rest.ensures.cases in
     let e = strip_prefix_is Decides-eqb c.in_ok-height.rest.now ending (Some c.in_ok-pixels.pixels) c.in_ok-pixels.ensures.cases in
-    formed _ _ m _ _ c.in_ok-width.ensures _ _ c.in_ok-height.ensures _ e c.if-pixels-width.false
+    formed _ _ m _ _ c.in_ok-width.ensures _ _ c.in_ok-height.ensures _ e _ c.if-pixels-width.false refl
