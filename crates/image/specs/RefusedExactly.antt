@@ -11,7 +11,8 @@ use Rattle.std.specs.Borrow.{Bor}
 use Rattle.image.specs.declared.Geometry.{Geometry}
 use Rattle.image.specs.declared.LumaError.{LumaError}
 use Rattle.image.specs.declared.LumaError.TheVariants.{OutsidePicture}
-use Rattle.std.specs.Prelude.{Ok, Err}
+use Rattle.image.specs.declared.view.Gray8View.{Gray8View}
+use Rattle.std.specs.Prelude.{Result, Ok, Err, MatchResult}
 use Rattle.image.specs.Answers.{Answer, accepted, refused, Bare, bare, Condition, numbered, answer_to}
 use Rattle.image.specs.Layout.{
   Layout,
@@ -23,7 +24,9 @@ use Rattle.image.specs.Layout.{
   row_layout,
   number_of,
   layout_answer,
+  Kept,
 }
+use Rattle.image.specs.LayoutLaws.{kept_valid}
 use Rattle.image.specs.Plane.{pixel}
 use Rattle.image.specs.Row.{row_in, row_at, Hands}
 use Rattle.image.specs.Pixel.{value_in, written_in, bytes_in, Sets}
@@ -125,6 +128,26 @@ module _ {A : Type 0} (g : Geometry)
 pub layout_exactly : (len : ℕ) (g : Geometry) → Exactly (layout_numbers len g ++ []) g (layout_answer (layout_of len g))
 unfolding answer_to
 layout_exactly len g = exactly g (layout_numbers len g ++ []) (layout_through g layout_answer (λ e. refl) [] g refl len)
+
+-- what a view tells of its layout: its geometry, or the refusal's number
+abbrev pub view_answer : Result Gray8View LumaError → Answer Geometry
+view_answer (Ok v) = accepted v.geometry
+view_answer (Err e) = refused (number_of e)
+
+-- `Gray8View::new`, by its contract
+pub view_exactly : (d : Bor (List ℕ)) (g : Geometry) (r : Result Gray8View LumaError) →
+    MatchResult r (λ v. (v.pixels ≡ d) × (v.geometry ≡ g) × Kept (length d.now) g) (λ e. layout_of (length d.now) g ≡ Err e) →
+    Exactly (layout_numbers (length d.now) g ++ []) g (view_answer r)
+unfolding answer_to
+view_exactly d g r m =
+    exactly g (layout_numbers (length d.now) g ++ [])
+    (told r m ∙ layout_through g layout_answer (λ e. refl) [] g refl (length d.now))
+  where
+    told : (r : Result Gray8View LumaError) →
+        MatchResult r (λ v. (v.pixels ≡ d) × (v.geometry ≡ g) × Kept (length d.now) g) (λ e. layout_of (length d.now) g ≡ Err e) →
+        view_answer r ≡ layout_answer (layout_of (length d.now) g)
+    told (Ok v) m = ap (λ (h : Geometry). accepted h) m.1 ∙ ap layout_answer (sym (kept_valid m.2))
+    told (Err e) m = ap layout_answer (sym m)
 
 -- `check_pixel` and `check_row`, which ask for a place
 asked_exactly : (len : ℕ) (g : Geometry) (inside : Bool)
