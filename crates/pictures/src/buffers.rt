@@ -5,7 +5,7 @@ use std::alloc::{AllocError, Global};
 use std::marker::PhantomData;
 
 // An element of a lent slice, which a state of the noise can give.
-pub(crate) trait Element: PartialEq + Drop {
+pub(crate) trait Element: Copy + PartialEq + Drop {
     fn from_state(state: u32) -> Self;
 }
 
@@ -88,13 +88,17 @@ impl<T: Element> Iterator for Noise<T> {
     }
 }
 
-// Makes the noise of a seed, of a length.
-pub(crate) fn make_noise<T: Element>(
-    alloc: Global,
+// Gives a slice a length, and fills it with the noise of a seed.
+pub(crate) fn fill_noise<T: Element>(
+    data: &mut Vec<T>,
     seed: u32,
     length: usize,
-) -> Result<Vec<T>, AllocError> {
-    Noise::new(seed).take(length).collect(alloc)
+) -> Result<(), AllocError> {
+    data.resize(length, T::from_state(0))?;
+    for (element, made) in data.iter_mut().zip(Noise::new(seed)) {
+        *element = made;
+    }
+    Ok(())
 }
 
 // Tests whether a slice holds the noise of a seed.
@@ -121,21 +125,21 @@ impl<'a> Content<'a> {
         }
     }
 
-    // Makes a slice of a length. It has zeros where its section ends before it.
-    pub(crate) fn make<T: Listed>(
+    // Gives a slice a length, and fills it. It has zeros where its section ends before it.
+    pub(crate) fn fill<T: Listed>(
         self,
-        alloc: Global,
+        data: &mut Vec<T>,
         length: usize,
-    ) -> Result<Vec<T>, AllocError> {
+    ) -> Result<(), AllocError> {
         match self {
-            Content::Noise(seed) => make_noise(alloc, seed, length),
+            Content::Noise(seed) => fill_noise(data, seed, length),
             Content::Listed(numbers) => {
-                let mut made = Vec::new(alloc);
-                for index in 0..length {
+                data.resize(length, T::from_number(0))?;
+                for (index, element) in data.iter_mut().enumerate() {
                     let number = numbers.get(index).copied().unwrap_or_default();
-                    made.push(T::from_number(number))?;
+                    *element = T::from_number(number);
                 }
-                Ok(made)
+                Ok(())
             }
         }
     }
@@ -156,7 +160,7 @@ impl<'a> Content<'a> {
 }
 
 // What a call is lent: a source, two destinations, a byte workspace, a u64 workspace, a count buffer and a u32
-// workspace.
+// workspace. The cases of a list fill the same slices again, so that not each of them asks for memory.
 #[derive(Drop)]
 pub(crate) struct Lent {
     pub(crate) from: Vec<u8>,
@@ -166,4 +170,18 @@ pub(crate) struct Lent {
     pub(crate) u64s: Vec<u64>,
     pub(crate) u16s: Vec<u16>,
     pub(crate) u32s: Vec<u32>,
+}
+
+impl Lent {
+    pub(crate) fn new(alloc: Global) -> Lent {
+        Lent {
+            from: Vec::new(alloc),
+            to: Vec::new(alloc),
+            other: Vec::new(alloc),
+            bytes: Vec::new(alloc),
+            u64s: Vec::new(alloc),
+            u16s: Vec::new(alloc),
+            u32s: Vec::new(alloc),
+        }
+    }
 }

@@ -44,12 +44,12 @@ impl Case {
             call: numbers::array(alloc, section())?,
             lengths: numbers::array(alloc, section())?,
             answer: numbers::array(alloc, section())?,
-            from: numbers::numbers(alloc, section())?,
-            before: numbers::numbers(alloc, section())?,
-            after: numbers::numbers(alloc, section())?,
-            other: numbers::numbers(alloc, section())?,
-            counts_before: numbers::numbers(alloc, section())?,
-            counts_after: numbers::numbers(alloc, section())?,
+            from: numbers::numbers(alloc, section(), LISTED)?,
+            before: numbers::numbers(alloc, section(), LISTED)?,
+            after: numbers::numbers(alloc, section(), LISTED)?,
+            other: numbers::numbers(alloc, section(), LISTED)?,
+            counts_before: numbers::numbers(alloc, section(), LISTED)?,
+            counts_after: numbers::numbers(alloc, section(), LISTED)?,
             seeds: [0, 1, 2, 3, 4, 5, 6].map(|slice| seed.wrapping_add(slice)),
         };
         if section().is_empty() && case.fits() {
@@ -76,19 +76,17 @@ impl Case {
         room.is_some() && lengths.all(|(length, most)| length <= most)
     }
 
-    // Makes what is lent.
-    fn lent(&self, alloc: Global) -> Result<Lent, AllocError> {
+    // Fills what is lent.
+    fn fill(&self, lent: &mut Lent) -> Result<(), AllocError> {
         let [from, to, other, bytes, u64s, u16s, u32s] = self.lengths;
         let seeds = self.seeds;
-        Ok(Lent {
-            from: Content::of(&self.from, seeds[0]).make(alloc, from)?,
-            to: Content::of(&self.before, seeds[1]).make(alloc, to)?,
-            other: buffers::make_noise(alloc, seeds[2], other)?,
-            bytes: buffers::make_noise(alloc, seeds[3], bytes)?,
-            u64s: buffers::make_noise(alloc, seeds[4], u64s)?,
-            u16s: Content::of(&self.counts_before, seeds[5]).make(alloc, u16s)?,
-            u32s: buffers::make_noise(alloc, seeds[6], u32s)?,
-        })
+        Content::of(&self.from, seeds[0]).fill(&mut lent.from, from)?;
+        Content::of(&self.before, seeds[1]).fill(&mut lent.to, to)?;
+        buffers::fill_noise(&mut lent.other, seeds[2], other)?;
+        buffers::fill_noise(&mut lent.bytes, seeds[3], bytes)?;
+        buffers::fill_noise(&mut lent.u64s, seeds[4], u64s)?;
+        Content::of(&self.counts_before, seeds[5]).fill(&mut lent.u16s, u16s)?;
+        buffers::fill_noise(&mut lent.u32s, seeds[6], u32s)
     }
 
     // Tests whether what was lent holds what it should.
@@ -106,11 +104,11 @@ impl Case {
     }
 
     // Runs the case, and tests the answer and what is left.
-    fn holds(&self, alloc: Global) -> Result<bool, AllocError> {
-        let mut lent = self.lent(alloc)?;
-        let answer = calls::call(self.call, &mut lent);
+    fn holds(&self, lent: &mut Lent) -> Result<bool, AllocError> {
+        self.fill(lent)?;
+        let answer = calls::call(self.call, lent);
         let refused = answer[0] != 0;
-        Ok(answer == self.answer && self.is_right(&lent, refused))
+        Ok(answer == self.answer && self.is_right(lent, refused))
     }
 }
 
@@ -124,9 +122,14 @@ fn is_left<T: Listed>(data: &[T], before: Content<'_>, after: &[usize], refused:
 }
 
 // Tests whether the case of a line holds. A malformed line is a case that does not.
-pub(crate) fn holds(alloc: Global, line: &[u8], seed: u32) -> Result<bool, AllocError> {
+pub(crate) fn holds(
+    alloc: Global,
+    line: &[u8],
+    seed: u32,
+    lent: &mut Lent,
+) -> Result<bool, AllocError> {
     match Case::read(alloc, line, seed) {
-        Ok(case) => case.holds(alloc),
+        Ok(case) => case.holds(lent),
         Err(Unread::Malformed) => Ok(false),
         Err(Unread::OutOfMemory(error)) => Err(error),
     }

@@ -28,18 +28,19 @@ fn number(word: &[u8]) -> Result<usize, Unread> {
     word.iter().try_fold(0, with_digit)
 }
 
-// Reads the numbers of a section.
-pub(crate) fn numbers(alloc: Global, section: &[u8]) -> Result<Vec<usize>, Unread> {
+// Reads the numbers of a section, and stops at one more than `most`, which are too many.
+pub(crate) fn numbers(alloc: Global, section: &[u8], most: usize) -> Result<Vec<usize>, Unread> {
     section
         .split(|byte| *byte == b' ')
         .filter(|word| !word.is_empty())
+        .take(most.saturating_add(1))
         .map(number)
         .try_collect(alloc)
 }
 
 // Reads a section of at most as many numbers as the array has. Zeros stand for those that it leaves out.
 pub(crate) fn array<const N: usize>(alloc: Global, section: &[u8]) -> Result<[usize; N], Unread> {
-    let read = numbers(alloc, section)?;
+    let read = numbers(alloc, section, N)?;
     if read.len() > N {
         return Err(Unread::Malformed);
     }

@@ -1,6 +1,7 @@
 // Replays the cases of a list, and counts those that come out wrong. A malformed line is a wrong case.
 ghost use Rattle.std.specs.Prelude.{◌≡◌, ◌+◌, ◌<◌, ◌≤◌};
 
+use crate::buffers::Lent;
 use crate::case;
 use std::alloc::{AllocError, Global};
 use std::fmt;
@@ -55,13 +56,14 @@ impl fmt::Display for Score {
 // Replays a list. The noise of a case has seven seeds, and the first is eight above that of the case before it.
 pub(crate) fn replay(alloc: Global, text: &[u8]) -> Result<Score, AllocError> {
     let mut score = Score::default();
+    let mut lent = Lent::new(alloc);
     let mut seed = 0u32;
     for (index, line) in text.split(|byte| *byte == b'\n').enumerate() {
         if let [] | [b'#', ..] = line {
             continue;
         }
         seed = seed.wrapping_add(8);
-        score.count(index + 1, case::holds(alloc, line, seed)?);
+        score.count(index + 1, case::holds(alloc, line, seed, &mut lent)?);
     }
     Ok(score)
 }
