@@ -20,8 +20,6 @@ REFUSALS = ('imgproc::ImgProcErrorRefusal::number', 'pgm::refused_line')
 LENGTH = 'std::option::Option::unwrap'
 # `?` takes an answer apart by the first of these, and makes an answer of a refusal, which holds no tally, by the second.
 TAKEN_APART, PASSED_ON = 'branch', 'from_residual'
-# std's copies within a slice and from one to another move samples and compute with none.
-MOVING = ('copy_from_slice', 'copy_within')
 # The crates that report a number.
 REPORTING = ('answer', 'imgproc_c', 'records')
 
@@ -75,3 +73,8 @@ class Code:
 
 def short(name):
     return name.split('::')[-1]
+
+
+def is_std(name, word):
+    """Tells whether this is std's function of that name."""
+    return name.split('::')[0] in ('core', 'std') and short(name) == word

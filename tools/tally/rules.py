@@ -2,7 +2,7 @@
 yields each function that breaks the rule, and what that function does."""
 import mir
 from mir import BYTE, callee, calls, head, items, operands, statements, type_arguments
-from program import CHOSEN, COUNTED, EXTREME, MODULE, MOVING, NUMBER, OTHER_PARTS, PASSED_ON, START, TAKEN_APART, Code, short
+from program import CHOSEN, COUNTED, EXTREME, MODULE, NUMBER, OTHER_PARTS, PASSED_ON, START, TAKEN_APART, Code, is_std, short
 from ways import HandedOn, Reported
 
 
@@ -65,7 +65,7 @@ def what_carries_a_tally_is_handed_on_once(code):
         if any(map(code.carries, f.types)):
             yield from HandedOn(code, f).broken
             for call in calls(f.body):
-                if any(map(code.carries, type_arguments(call))) and short(callee(call)) != PASSED_ON:
+                if any(map(code.carries, type_arguments(call))) and not is_std(callee(call), PASSED_ON):
                     yield f.name, f'hands a tally to `{short(callee(call))}` under a type parameter'
 
 
@@ -94,7 +94,7 @@ def in_a_sweep_samples_are_only_moved_or_met(code):
     """Samples are compared nowhere else in an erosion or dilation. A function that sweeps, or that is lent bytes by one that
     sweeps, loads a sample, stores it, or gives it to `extreme`. It does not compute with a sample,
     decide by it, pass it on or keep it elsewhere, and gets no sample from elsewhere. Parts 3, 5 and 6 are no sweeps; each is lent
-    bytes by its one caller alone. std's `?` passes a picture on, and its copies of a slice move samples."""
+    bytes by its one caller alone. std's `?` passes a picture on."""
     todo = [f for f in code.library if f.name in code.sweeping]
     seen = {f.name for f in todo}
     while todo:
@@ -104,7 +104,7 @@ def in_a_sweep_samples_are_only_moved_or_met(code):
             if name in OTHER_PARTS:
                 if OTHER_PARTS[name] != f.name:
                     yield f.name, f'lends its bytes to `{short(name)}`'
-            elif name.split('::')[0] in ('core', 'std') and short(name) in (TAKEN_APART, *MOVING):
+            elif is_std(name, TAKEN_APART):
                 continue
             elif name not in code.functions:
                 yield f.name, f'lends its bytes to `{name}`, whose statements are not in the print'

@@ -1,7 +1,7 @@
 """Follows every path through a function, from its first statement to each return, and notes what a rule has to know about it."""
 import mir
 from mir import TAG, Unknown, callee, filled, head, items, operands, statements
-from program import CHOSEN, COUNTED, EXTREME, LENGTH, MET, NUMBER, PASSED_ON, REFUSALS, REPORTS, short
+from program import CHOSEN, COUNTED, EXTREME, LENGTH, MET, NUMBER, PASSED_ON, REFUSALS, REPORTS, is_std, short
 
 NOTHING = frozenset()
 NAMES = {
@@ -221,7 +221,7 @@ class HandedOn(Ways):
         for argument in arguments:
             state = self.use(argument, state, name)
         kind = self.kind(place)
-        if self.code.carries(kind) and name not in self.code.functions and short(name) != PASSED_ON:
+        if self.code.carries(kind) and name not in self.code.functions and not is_std(name, PASSED_ON):
             self.no(f'takes a tally from `{short(name)}`, whose statements are not in the print')
         given = frozenset({CHOSEN: {'sample'}, NUMBER: {'number'}}.get(name, NOTHING))
         parts = self.whole(kind) if self.code.carries(kind) else given
