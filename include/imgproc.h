@@ -36,7 +36,7 @@
 
 /* The version, and the number of the calling form, which changes whenever a declaration changes; an added one leaves
    it. */
-#define IMGPROC_VERSION "0.5.0"
+#define IMGPROC_VERSION "0.5.1"
 #define IMGPROC_ABI 3
 
 /* The largest side of a picture. */
