@@ -7,8 +7,9 @@ ghost use Rattle.imgproc.specs.Tables.{wide_modulus, TableRows, Tables, Corners,
 use crate::reach::Area;
 use image::Gray8View;
 
-// Writes the row of zeros above the picture, in both tables. One loop writes both: the compiler makes a call of C's
-// `memset` of std's `fill`, and the static library needs no name from outside.
+// Writes the row of zeros above the picture, in both tables.
+// One loop writes both: the compiler makes a call of C's `memset` of std's `fill`, and the static library needs no name
+// from outside.
 fn table_top(source: Gray8View<'_>, workspace: &mut [u64], at: usize)
     requires { at + table_entries source.geometry.width source.geometry.height ≤ length workspace.old }
     ensures { TableRows wide_modulus source.entry.pixels.now source.entry.geometry at 1 workspace.new }

@@ -1,6 +1,6 @@
 -- The steps of the loops that build both tables, whatever an entry's width: one entry more, a row begun, one pixel further, a row
 -- ended. Sums are taken modulo `modulus`. Assumes nothing.
-use Prim.Native.Nat.{ℕ, ◌+◌, ◌-◌, ◌*◌, ◌/◌, ◌%◌, ◌≤◌, ◌<◌}
+use Prim.Native.Nat.{ℕ, ◌+◌, ◌*◌, ◌/◌, ◌%◌, ◌≤◌, ◌<◌}
 use native.Mathlib.Nat.{mul-le-mul_right, mul-le-mul, le_trans, add_assoc, div-eq_of_lt, mod-le, mod-add-mod, add-mod-mod, zero-mod}
 use native.Mathlib.Omega.{arith}
 use mathlib.Core.Path.{◌≡◌, ap, sym, ◌∙◌, subst}
